@@ -1,0 +1,8 @@
+-- Lemmas of this crate, over plain values.
+pub mod Writes
+pub mod Lists
+pub mod Lines
+pub mod Gathering
+pub mod Telling
+pub mod Chain
+pub mod AllLines

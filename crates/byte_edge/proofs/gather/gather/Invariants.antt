@@ -1,0 +1,20 @@
+use Rattle.std.proofs.Common.{◌≡◌, ℕ, ◌+◌, ◌-◌, ◌*◌, List, length}
+use Rattle.std.specs.Io.KnownBytes.{prepend_known}
+use Rattle.byte_edge.specs.Devices.{SameElsewhere}
+use Rattle.byte_edge.proofs.Gathering.{IsBegun}
+use Rattle.byte_edge.proofs.gather.gather.Given as goal
+
+-- what was taken so far is the beginning of a line, and no call failed
+abbrev pub invariant-parts : goal.invariant-parts
+invariant-parts g l = record {
+  begun : IsBegun l.line l.initial.room l.room (prepend_known l.initial.block (g.F.Files.left l.initial.files l.slot)) (prepend_known l.block (g.F.Files.left l.files l.slot));
+  most : l.line.most ≡ l.initial.line.most;
+  stays_open : (k : ℕ) → g.F.Files.is_open l.initial.files k → g.F.Files.is_open l.files k;
+  names : (name : List ℕ) → g.F.Files.held l.files name ≡ g.F.Files.held l.initial.files name;
+  other_slots : SameElsewhere l.slot (g.F.Files.left l.initial.files) (g.F.Files.left l.files);
+  counts : (k : ℕ) → g.F.Files.faults l.files k ≡ g.F.Files.faults l.initial.files k;
+}
+
+-- a read that gives bytes is followed by a part of a line, which is paid for
+abbrev pub decreases-parts : goal.decreases-parts
+decreases-parts g l = 2 * l.room + (1 - length l.block)

@@ -1,0 +1,88 @@
+//! The bytes that were read from a slot and not yet given.
+ghost use Rattle.std.specs.Prelude.{◌≡◌, ◌<◌, ◌≤◌, ℕ, List, [], length, drop, false, IsTrue, IfOk, OnOk, OnErr, slice_range, vec_len};
+ghost use Rattle.std.specs.Io.KnownBytes.{Consumes, Keeps, IsAtEnd};
+ghost use Rattle.byte_edge.specs.Devices.{Rose, SameElsewhere};
+
+use super::{Failed, Files, NoMemory};
+use std::alloc::Global;
+use std::marker::Model;
+
+/// How many bytes a read asks for (own).
+const BLOCK: usize = 8192;
+
+/// Bytes of a slot, taken by reads of up to 8,192 bytes. Contracts see the bytes that it holds.
+#[derive(Drop)]
+pub(crate) struct Block {
+    bytes: Vec<u8>,
+    start: usize,
+    end: usize,
+}
+
+impl Model for Block {
+    ghost use Rattle.std.specs.Prelude.{◌≡◌, ◌≤◌, ℕ, List, slice_range, vec_len};
+
+    ghost Value = { List ℕ };
+
+    ghost view = { λ b. slice_range b.bytes.items b.start b.end };
+
+    ghost invariant = { λ b. (b.start ≤ b.end) × (b.end ≤ 8192) × (vec_len b.bytes ≡ 8192) };
+}
+
+impl Block {
+    /// A block that holds nothing.
+    pub(crate) fn new(alloc: Global) -> Result<Block, NoMemory>
+        ensures { IfOk result (λ block. block ≡ []) }
+    {
+        let mut bytes = Vec::with_capacity(alloc, BLOCK)?;
+        bytes.resize(BLOCK, 0)?;
+        Ok(Block {
+            bytes,
+            start: 0,
+            end: 0,
+        })
+    }
+
+    /// The bytes that it holds.
+    pub(crate) fn as_slice(&self) -> &[u8]
+        ensures { result.now ≡ self.now }
+    {
+        let (start, end) = (self.start, self.end);
+        let all = self.bytes.as_slice();
+        &all[start..end]
+    }
+
+    /// Lets the first `count` bytes go.
+    pub(crate) fn consume(&mut self, count: usize)
+        requires { count ≤ length self.old }
+        ensures { self.new ≡ drop count self.old }
+    {
+        self.start += count;
+    }
+
+    /// Reads once into a block that holds nothing. False at the end of the slot.
+    pub(crate) fn fill<F: Files>(&mut self, slot: usize, files: &mut F) -> Result<bool, Failed>
+        requires slot { slot < 3 }
+        requires opened { F.is_open files.old slot }
+
+        ensures bytes { OnOk result (Consumes (F.left files.old slot) (F.left files.new slot) self.new) }
+        ensures more { IfOk result (λ more. IsTrue more → 0 < length self.new) }
+        ensures end { IfOk result (λ more. more ≡ false → (self.new ≡ []) × IsAtEnd (F.left files.new slot)) }
+        ensures nothing { OnErr result (self.new ≡ []) }
+        ensures unread { OnErr result (Keeps (F.left files.old slot) (F.left files.new slot)) }
+
+        ensures stays_open { (k : ℕ) → F.is_open files.old k → F.is_open files.new k }
+        ensures names { (name : List ℕ) → F.held files.new name ≡ F.held files.old name }
+        ensures other_slots { SameElsewhere slot (F.left files.old) (F.left files.new) }
+
+        ensures failed { OnErr result (Rose (F.faults files.old slot) (F.faults files.new slot)) }
+        ensures counts { OnOk result ((k : ℕ) → F.faults files.new k ≡ F.faults files.old k) }
+        ensures other_counts { SameElsewhere slot (F.faults files.old) (F.faults files.new) }
+        ensures later { (k : ℕ) → F.faults files.old k ≤ F.faults files.new k }
+    {
+        self.start = 0;
+        self.end = 0;
+        let count = files.read(slot, self.bytes.as_mut_slice())?;
+        self.end = count;
+        Ok(count > 0)
+    }
+}

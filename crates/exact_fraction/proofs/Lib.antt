@@ -1,0 +1,14 @@
+pub mod Answered
+pub mod Held
+pub mod Lines
+pub mod Lowest
+pub mod Moments
+pub mod Orders
+pub mod Products
+pub mod Ratios
+pub mod Results
+pub mod Ring
+pub mod Rounding
+pub mod Sums
+pub mod Tells
+pub mod Wide

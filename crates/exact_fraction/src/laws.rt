@@ -1,0 +1,131 @@
+//! Laws of the numbers. Each function here does nothing: its contract states laws over all fractions, in lowest terms or
+//! not, for the proofs of the crates above.
+ghost use Rattle.std.specs.Prelude.{◌≡◌, ℕ, ◌<◌, ◌⊎◌, ◌↔◌, IsTrue, ℤ, pos, negsuc, ◌*ℤ◌};
+ghost use Rattle.exact_fraction.specs.Checked.{made, checked, is_zero, checked_quotient};
+ghost use Rattle.exact_fraction.specs.Moments.{moment_at};
+ghost use Rattle.exact_fraction.specs.declared.error.DivFault.TheVariants as fault;
+ghost use Rattle.std.specs.Int.{IsGcd};
+ghost use Rattle.std.specs.Ordering.{MatchOrdering};
+ghost use Rattle.exact_fraction.specs.Number.{Rational, den, gcd, ratio, whole, zero, one, IsLowest};
+ghost use Rattle.exact_fraction.specs.Order.{◌≤ℚ◌, ◌<ℚ◌, ◌=ℚ◌, compares, less, same, lesser_of, greater_of, IsBetween};
+ghost use Rattle.exact_fraction.specs.Operations.{sum_of, difference_of, product_of, quotient_of, negation_of, round9_of, nearest_whole, IsNearest, middle_of, line_at};
+ghost use Rattle.exact_fraction.specs.Relations.{relates};
+ghost use Rattle.exact_fraction.specs.declared.relation.Relation.TheVariants.{Eq, Ne, Lt, Le, Gt, Ge};
+
+/// A ratio, and so the result of each operation, is in lowest terms and has the value of its two numbers (own).
+pub fn lowest_terms()
+    ensures greatest { (a b : ℕ) → IsGcd a b (gcd a b) }
+    ensures lowest { (n : ℤ) (d : ℕ) → 0 < d → IsLowest (ratio n d) }
+    ensures value { (n : ℤ) (d : ℕ) → 0 < d → (ratio n d).num *ℤ pos d ≡ n *ℤ pos (den (ratio n d)) }
+    ensures unique { (p q : Rational) → IsLowest p → IsLowest q → p =ℚ q → p ≡ q }
+    ensures itself { (q : Rational) → IsLowest q → ratio q.num (den q) ≡ q }
+    ensures of_whole { (n : ℤ) → IsLowest (whole n) }
+    ensures of_sum { (p q : Rational) → IsLowest (sum_of p q) × IsLowest (difference_of p q) }
+    ensures of_product { (p q : Rational) → IsLowest (product_of p q) × IsLowest (quotient_of p q) }
+    ensures of_sign { (p : Rational) → IsLowest p → IsLowest (negation_of p) }
+    ensures of_rounding { (q : Rational) → IsLowest (round9_of q) }
+{}
+
+/// The order is a dense total order, and the lesser and the greater of two numbers are their bounds (own).
+pub fn order()
+    ensures reflexive { (p : Rational) → p ≤ℚ p }
+    ensures total { (p q : Rational) → (p ≤ℚ q) ⊎ (q <ℚ p) }
+    ensures apart { (p q : Rational) → p ≤ℚ q → ¬ (q <ℚ p) }
+    ensures antisymmetric { (p q : Rational) → p ≤ℚ q → q ≤ℚ p → p =ℚ q }
+    ensures same_is_at_most { (p q : Rational) → p =ℚ q → (p ≤ℚ q) × (q ≤ℚ p) }
+    ensures below_is_at_most { (p q : Rational) → p <ℚ q → p ≤ℚ q }
+    ensures transitive { (p q r : Rational) → p ≤ℚ q → q ≤ℚ r → p ≤ℚ r }
+    ensures below_at_most { (p q r : Rational) → p <ℚ q → q ≤ℚ r → p <ℚ r }
+    ensures at_most_below { (p q r : Rational) → p ≤ℚ q → q <ℚ r → p <ℚ r }
+    ensures lesser { (p q : Rational) → (lesser_of p q ≤ℚ p) × (lesser_of p q ≤ℚ q) }
+    ensures greater { (p q : Rational) → (p ≤ℚ greater_of p q) × (q ≤ℚ greater_of p q) }
+    ensures dense { (p q : Rational) → p <ℚ q → (p <ℚ middle_of p q) × (middle_of p q <ℚ q) }
+{}
+
+/// Each test agrees with the order (own).
+pub fn tests()
+    ensures less { (p q : Rational) → IsTrue (less p q) ↔ (p <ℚ q) }
+    ensures same { (p q : Rational) → IsTrue (same p q) ↔ (p =ℚ q) }
+    ensures compares { (p q : Rational) → MatchOrdering (compares p q) (p <ℚ q) (p =ℚ q) (q <ℚ p) }
+    ensures is_zero { (q : Rational) → IsTrue (is_zero q) ↔ (q =ℚ zero) }
+    ensures equal { (p q : Rational) → IsTrue (relates Eq p q) ↔ (p =ℚ q) }
+    ensures unequal { (p q : Rational) → IsTrue (relates Ne p q) ↔ (¬ (p =ℚ q)) }
+    ensures below { (p q : Rational) → IsTrue (relates Lt p q) ↔ (p <ℚ q) }
+    ensures at_most { (p q : Rational) → IsTrue (relates Le p q) ↔ (p ≤ℚ q) }
+    ensures above { (p q : Rational) → IsTrue (relates Gt p q) ↔ (q <ℚ p) }
+    ensures at_least { (p q : Rational) → IsTrue (relates Ge p q) ↔ (q ≤ℚ p) }
+{}
+
+/// Sums and differences keep the order of what is added to, and turn that of what is taken away; a sign turns the order
+/// (own).
+pub fn sums()
+    ensures commutes { (p q : Rational) → sum_of p q ≡ sum_of q p }
+    ensures associates { (p q r : Rational) → sum_of (sum_of p q) r ≡ sum_of p (sum_of q r) }
+    ensures with_zero { (p : Rational) → sum_of p zero =ℚ p }
+    ensures with_difference { (p q : Rational) → sum_of p (difference_of q p) =ℚ q }
+    ensures as_sum { (p q : Rational) → difference_of p q ≡ sum_of p (negation_of q) }
+    ensures of_same { (p q r : Rational) → p =ℚ q → sum_of p r ≡ sum_of q r }
+    ensures difference_of_same { (p q r : Rational) → p =ℚ q
+        → (difference_of p r ≡ difference_of q r) × (difference_of r p ≡ difference_of r q) }
+    ensures at_most { (p q r : Rational) → p ≤ℚ q → sum_of p r ≤ℚ sum_of q r }
+    ensures below { (p q r : Rational) → p <ℚ q → sum_of p r <ℚ sum_of q r }
+    ensures difference_at_most { (p q r : Rational) → p ≤ℚ q → difference_of p r ≤ℚ difference_of q r }
+    ensures difference_below { (p q r : Rational) → p <ℚ q → difference_of p r <ℚ difference_of q r }
+    ensures taken_at_most { (p q r : Rational) → p ≤ℚ q → difference_of r q ≤ℚ difference_of r p }
+    ensures taken_below { (p q r : Rational) → p <ℚ q → difference_of r q <ℚ difference_of r p }
+    ensures difference_sign { (p q : Rational) → p ≤ℚ q → zero ≤ℚ difference_of q p }
+    ensures sign_at_most { (p q : Rational) → p ≤ℚ q → negation_of q ≤ℚ negation_of p }
+    ensures sign_below { (p q : Rational) → p <ℚ q → negation_of q <ℚ negation_of p }
+    ensures sign_twice { (p : Rational) → negation_of (negation_of p) ≡ p }
+{}
+
+/// A product or quotient by a positive number keeps the order, and one by a negative number turns it (own).
+pub fn products()
+    ensures commutes { (p q : Rational) → product_of p q ≡ product_of q p }
+    ensures with_zero { (p : Rational) → product_of p zero =ℚ zero }
+    ensures with_one { (p : Rational) → product_of p one =ℚ p }
+    ensures of_same { (p q r : Rational) → p =ℚ q → product_of p r ≡ product_of q r }
+    ensures at_most { (p q r : Rational) → zero ≤ℚ r → p ≤ℚ q → product_of p r ≤ℚ product_of q r }
+    ensures below { (p q r : Rational) → zero <ℚ r → p <ℚ q → product_of p r <ℚ product_of q r }
+    ensures turned_at_most { (p q r : Rational) → r ≤ℚ zero → p ≤ℚ q → product_of q r ≤ℚ product_of p r }
+    ensures turned_below { (p q r : Rational) → r <ℚ zero → p <ℚ q → product_of q r <ℚ product_of p r }
+    ensures quotient { (p q : Rational) → ¬ (q =ℚ zero) → product_of (quotient_of p q) q =ℚ p }
+    ensures quotient_at_most { (p q r : Rational) → zero <ℚ r → p ≤ℚ q → quotient_of p r ≤ℚ quotient_of q r }
+    ensures quotient_turned { (p q r : Rational) → r <ℚ zero → p ≤ℚ q → quotient_of q r ≤ℚ quotient_of p r }
+{}
+
+/// A value on the straight line between two points lies between the values of the points (own).
+pub fn straight_line()
+    ensures between { (x0 y0 x1 y1 x : Rational) → x0 <ℚ x1 → x0 ≤ℚ x → x ≤ℚ x1
+        → IsBetween y0 y1 (line_at x0 y0 x1 y1 x) }
+{}
+
+/// Rounding gives the nearest multiple of 10^-9, half away from 0 (own).
+pub fn rounding()
+    ensures nearest { (n : ℤ) (d : ℕ) → 0 < d → IsNearest n d (nearest_whole n d) }
+    ensures multiple { (q : Rational) → (round9_of q).num *ℤ pos 1000000000
+        ≡ nearest_whole (q.num *ℤ pos 1000000000) (den q) *ℤ pos (den (round9_of q)) }
+    ensures at_most { (p q : Rational) → p ≤ℚ q → round9_of p ≤ℚ round9_of q }
+{}
+
+/// Worked examples, as the definitions compute them (own).
+pub fn examples()
+    ensures cancelled { made (pos 6) (pos 4) ≡ Some (record { num = pos 3; below = 1 }) }
+    ensures below_one { made (pos 6) (negsuc 3) ≡ None }
+    ensures too_large { made (pos 9223372036854775808) (pos 1) ≡ None }
+    ensures too_low { made (negsuc 9223372036854775807) (pos 1) ≡ None }
+    ensures wide { made (pos 27670116110564327424) (pos 6) ≡ Some (whole (pos 4611686018427387904)) }
+    ensures sum { checked (sum_of (ratio (pos 1) 6) (ratio (pos 1) 10)) ≡ Ok (record { num = pos 4; below = 14 }) }
+    ensures overflow { checked (sum_of (whole (pos 9223372036854775807)) one) ≡ Err (record {}) }
+    ensures difference { difference_of (ratio (pos 1) 3) (ratio (pos 1) 2) ≡ record { num = negsuc 0; below = 5 } }
+    ensures product { product_of (ratio (pos 2) 3) (ratio (pos 3) 4) ≡ record { num = pos 1; below = 1 } }
+    ensures quotient { quotient_of (ratio (pos 1) 2) (ratio (negsuc 2) 4) ≡ record { num = negsuc 1; below = 2 } }
+    ensures zero_divisor { checked_quotient one zero ≡ Err fault.Zero }
+    ensures rounded { round9_of (ratio (pos 2) 3) ≡ record { num = pos 666666667; below = 999999999 } }
+    ensures rounded_away { round9_of (ratio (negsuc 0) 2000000000) ≡ record { num = negsuc 0; below = 999999999 } }
+    ensures halfway { line_at zero one (whole (pos 2)) (whole (pos 4)) one ≡ record { num = pos 5; below = 1 } }
+    ensures first_moment { moment_at (negsuc 62135596799) ≡ Some (negsuc 62135596799) }
+    ensures before_first { moment_at (negsuc 62135596800) ≡ None }
+    ensures last_moment { moment_at (pos 253402300799) ≡ Some (pos 253402300799) }
+    ensures after_last { moment_at (pos 253402300800) ≡ None }
+{}

@@ -1,0 +1,11 @@
+//! Exact fractions, moments and the relations of conditions.
+#![tactic(auto)]
+
+mod divisor;
+pub mod error;
+pub mod frac;
+pub mod laws;
+pub mod moment;
+pub mod relation;
+#[cfg(test)]
+mod tests;
