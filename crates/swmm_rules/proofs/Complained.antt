@@ -20,9 +20,9 @@ front_of_first input trace was now failed first = record { prefix = prefix_of_fi
 front_of : (input trace : List ℕ) (slot1 left0 left1 was now : Option (List ℕ)) (files_was files_now : ℕ → ℕ) (count_was count_now : ℕ) (c : Complaint)
     → Comes input trace slot1 left0 left1 was now (Err c) → CountsOf files_was files_now count_was count_now (Err c)
     → WritesFront input trace was now (Rose count_was count_now)
-front_of input trace slot1 left0 left1 was now fw fn cw cn (Refused refusal) p k = front_of_first input trace was now _ (first_of_whole input trace was now p.1)
-front_of input trace slot1 left0 left1 was now fw fn cw cn (TooLong r) p k = front_of_first input trace was now _ (first_of_whole input trace was now p.1)
-front_of input trace slot1 left0 left1 was now fw fn cw cn (Trace line cause) p k = front_of_first input trace was now _ (first_of_whole input trace was now p.1)
+front_of input trace slot1 left0 left1 was now fw fn cw cn (Refused refusal) p k = front_of_first input trace was now _ (first_of_whole input trace was now p.0.1)
+front_of input trace slot1 left0 left1 was now fw fn cw cn (TooLong r) p k = front_of_first input trace was now _ (first_of_whole input trace was now p.0.1)
+front_of input trace slot1 left0 left1 was now fw fn cw cn (Trace line cause) p k = front_of_first input trace was now _ (first_of_whole input trace was now p.0.1)
 front_of input trace slot1 left0 left1 was now fw fn cw cn (ReadFailed r) p k = front_of_first input trace was now _ (first_of_interrupted input trace slot1 left1 was now p)
 front_of input trace slot1 left0 left1 was now fw fn cw cn WriteFailed p k = record { prefix = p; lines = inl k }
 front_of input trace slot1 left0 left1 was now fw fn cw cn OutOfMemory p k = front_of_first input trace was now _ p
@@ -31,8 +31,8 @@ front_of input trace slot1 left0 left1 was now fw fn cw cn Usage p k = absurd p
 -- the same, where the complaint's text takes memory
 front_in_memory : (input trace : List ℕ) (slot1 left0 left1 was now : Option (List ℕ)) (c : Complaint)
     → IsTrue (takes_memory c) → Comes input trace slot1 left0 left1 was now (Err c) → WritesFront input trace was now ⊥
-front_in_memory input trace slot1 left0 left1 was now (Refused refusal) m p = front_of_first input trace was now _ (first_of_whole input trace was now p.1)
-front_in_memory input trace slot1 left0 left1 was now (Trace line cause) m p = front_of_first input trace was now _ (first_of_whole input trace was now p.1)
+front_in_memory input trace slot1 left0 left1 was now (Refused refusal) m p = front_of_first input trace was now _ (first_of_whole input trace was now p.0.1)
+front_in_memory input trace slot1 left0 left1 was now (Trace line cause) m p = front_of_first input trace was now _ (first_of_whole input trace was now p.0.1)
 front_in_memory input trace slot1 left0 left1 was now (TooLong r) m p = absurd (let e : false ≡ true = m in cc)
 front_in_memory input trace slot1 left0 left1 was now (ReadFailed r) m p = absurd (let e : false ≡ true = m in cc)
 front_in_memory input trace slot1 left0 left1 was now WriteFailed m p = absurd (let e : false ≡ true = m in cc)
@@ -47,9 +47,9 @@ said_line complaint line was now is said = let P : Option (List ℕ) → Type 0 
 replays_said : (input trace : List ℕ) (slot1 left0 left1 was now err_was err_now : Option (List ℕ)) (files_was files_now : ℕ → ℕ) (count_was count_now : ℕ) (err_failed : Type 0) (c : Complaint)
     → Comes input trace slot1 left0 left1 was now (Err c) → CountsOf files_was files_now count_was count_now (Err c) → Appends err_was err_now (said_of c)
     → Replays input trace slot1 left0 left1 was now err_was err_now (Rose count_was count_now) err_failed (status_of c)
-replays_said input trace slot1 left0 left1 was now ew en fw fn cw cn failed (Refused refusal) p k said = (said_line _ _ ew en p.0 said, p.1)
-replays_said input trace slot1 left0 left1 was now ew en fw fn cw cn failed (TooLong r) p k said = (said_line _ _ ew en p.0 said, p.1)
-replays_said input trace slot1 left0 left1 was now ew en fw fn cw cn failed (Trace line cause) p k said = (said_line _ _ ew en p.0 said, p.1)
+replays_said input trace slot1 left0 left1 was now ew en fw fn cw cn failed (Refused refusal) p k said = (said_line _ _ ew en p.0.0 said, p.0.1, p.1)
+replays_said input trace slot1 left0 left1 was now ew en fw fn cw cn failed (TooLong r) p k said = (said_line _ _ ew en p.0.0 said, p.0.1, p.1)
+replays_said input trace slot1 left0 left1 was now ew en fw fn cw cn failed (Trace line cause) p k said = (said_line _ _ ew en p.0.0 said, p.0.1, p.1)
 replays_said input trace slot1 left0 left1 was now ew en fw fn cw cn failed (ReadFailed r) p k said =
     (front_of_first input trace was now _ (first_of_interrupted input trace slot1 left1 was now p), inr (inr p))
 replays_said input trace slot1 left0 left1 was now ew en fw fn cw cn failed WriteFailed p k said = (record { prefix = p; lines = inl k }, inl k)

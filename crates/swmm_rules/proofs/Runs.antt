@@ -48,8 +48,10 @@ ends_refused input trace line was refused =
 -- the input file was not accepted
 pub comes_unread : (input trace : List ℕ) (slot1 left0 left1 was : Option (List ℕ)) (c : Complaint)
     → IsInputEnd (Err c) → ReadsInput input left0 (Err c) → left1 ≡ slot1 → Comes input trace slot1 left0 left1 was was (Err c)
-comes_unread input trace slot1 left0 left1 was (Refused refusal) can p same = ends_refused input trace _ was p.0
-comes_unread input trace slot1 left0 left1 was (TooLong role.Input) can p same = ends_refused input trace _ was p
+comes_unread input trace slot1 left0 left1 was (Refused refusal) can p same =
+    (ends_refused input trace _ was p.0, λ _. p.1)
+comes_unread input trace slot1 left0 left1 was (TooLong role.Input) can p same =
+    (ends_refused input trace _ was p.0, λ within. absurd (omega (arith, p.1, within)))
 comes_unread input trace slot1 left0 left1 was (ReadFailed role.Input) can p same = inr (same, Appends-nothing was)
 comes_unread input trace slot1 left0 left1 was OutOfMemory can p same = writes_nothing input trace was
 comes_unread input trace slot1 left0 left1 was (TooLong role.Trace) can p same = absurd can
@@ -89,10 +91,10 @@ comes_traced input trace slot1 left0 left1 was now m (Ok done) accepted is end c
     (ends_printed input trace m was now _ accepted is p.2.0 p.2.1, end, p.1 ∙ ap Some p.2.2)
 comes_traced input trace slot1 left0 left1 was now m (Ok done) accepted is end can (inr p) = absurd (let e : false ≡ true = p.0 in cc)
 comes_traced input trace slot1 left0 left1 was now m (Err (Trace line cause)) accepted is end can (inl p) =
-    ends_printed input trace m was now _ accepted is p.2.0 p.2.1
+    (ends_printed input trace m was now _ accepted is p.2.0 p.2.1, λ _. end)
 comes_traced input trace slot1 left0 left1 was now m (Err (Trace line cause)) accepted is end can (inr p) = absurd (let e : false ≡ true = p.0 in cc)
 comes_traced input trace slot1 left0 left1 was now m (Err (TooLong role.Trace)) accepted is end can (inl p) =
-    ends_printed input trace m was now _ accepted is p.2.0 p.2.1
+    (ends_printed input trace m was now _ accepted is p.2.0 p.2.1, λ _. end)
 comes_traced input trace slot1 left0 left1 was now m (Err (TooLong role.Trace)) accepted is end can (inr p) = absurd (let e : false ≡ true = p.0 in cc)
 comes_traced input trace slot1 left0 left1 was now m (Err (TooLong role.Input)) accepted is end can p = absurd can
 comes_traced input trace slot1 left0 left1 was now m (Err (ReadFailed role.Trace)) accepted is end can (inl p) =
@@ -131,17 +133,6 @@ first_of_interrupted input trace slot1 left1 was now (inr p) = record {
   count = 0;
   text = Appends-same was now [] _ (sym (nothing_by (input_complaint input) (input_model input))) p.1;
 }
-
--- what is written before a complaint other than of a failed write is the text of the first lines
-pub first_of_complaint : (input trace : List ℕ) (slot1 left0 left1 was now : Option (List ℕ)) (c : Complaint)
-    → Comes input trace slot1 left0 left1 was now (Err c) → (c ≡ WriteFailed) ⊎ WritesFirst input trace was now
-first_of_complaint input trace slot1 left0 left1 was now (Refused refusal) p = inr (first_of_whole input trace was now p.1)
-first_of_complaint input trace slot1 left0 left1 was now (TooLong r) p = inr (first_of_whole input trace was now p.1)
-first_of_complaint input trace slot1 left0 left1 was now (Trace line cause) p = inr (first_of_whole input trace was now p.1)
-first_of_complaint input trace slot1 left0 left1 was now (ReadFailed r) p = inr (first_of_interrupted input trace slot1 left1 was now p)
-first_of_complaint input trace slot1 left0 left1 was now WriteFailed p = inl refl
-first_of_complaint input trace slot1 left0 left1 was now OutOfMemory p = inr p
-first_of_complaint input trace slot1 left0 left1 was now Usage p = absurd p
 
 -- the same, where the input file was read before
 pub comes_after_input : (input trace : List ℕ) (slot1 mid1 mid0 left0 left1 was now : Option (List ℕ)) (m : Contents) (result : Result (Unit {0}) Complaint)

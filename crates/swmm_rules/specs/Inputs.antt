@@ -1,9 +1,9 @@
 -- What the reading of the input file leaves. These words serve the contracts inside the crate.
-use Rattle.std.specs.Prelude.{◌≡◌, ℕ, List, Option, Some, None, Result, Ok, Err, ⊤, Bool, true, false}
+use Rattle.std.specs.Prelude.{◌≡◌, ℕ, List, Option, Some, None, Result, Ok, Err, ⊤, Bool, true, false, length, ◌<◌}
 use Rattle.std.specs.Io.KnownBytes.{IsAtEnd}
 use Rattle.small_model.specs.declared.model.SmallModel.{SmallModel}
 use Rattle.small_model.specs.Models.{contents_of}
-use Rattle.swmm_rules.specs.Outcome.{input_complaint, input_model}
+use Rattle.swmm_rules.specs.Outcome.{input_complaint, input_model, input_budget}
 use Rattle.swmm_rules.specs.Says.{said_of}
 use Rattle.swmm_rules.specs.declared.complaint.Role.TheVariants as role
 use Rattle.swmm_rules.specs.declared.complaint.Complaint.{Complaint}
@@ -13,7 +13,8 @@ use Rattle.swmm_rules.specs.declared.complaint.Complaint.TheVariants.{Usage, Ref
 abbrev pub ReadsInput : List ℕ → Option (List ℕ) → Result SmallModel Complaint → Type 0
 ReadsInput input left (Ok model) = (input_complaint input ≡ None) × (contents_of model ≡ input_model input) × IsAtEnd left
 ReadsInput input left (Err (Refused refusal)) = (input_complaint input ≡ Some (said_of (Refused refusal))) × IsAtEnd left
-ReadsInput input left (Err (TooLong role.Input)) = input_complaint input ≡ Some (said_of (TooLong role.Input))
+ReadsInput input left (Err (TooLong role.Input)) =
+    (input_complaint input ≡ Some (said_of (TooLong role.Input))) × (input_budget < length input)
 ReadsInput input left (Err (TooLong role.Trace)) = ⊥
 ReadsInput input left (Err (ReadFailed r)) = ⊤
 ReadsInput input left (Err OutOfMemory) = ⊤

@@ -1,5 +1,5 @@
 -- What a run of the tool leaves on its outputs and in its files, by its status (own).
-use Rattle.std.specs.Prelude.{◌≡◌, ℕ, List, [], take, Option, Some, None, MatchOption, ◌⊎◌}
+use Rattle.std.specs.Prelude.{◌≡◌, ℕ, List, [], take, Option, Some, None, MatchOption, ◌⊎◌, length, ◌≤◌}
 use Rattle.std.specs.Io.KnownBytes.{Appends, IsAtEnd}
 use Rattle.byte_edge.specs.Devices.{Rose, AppendsPrefix}
 use Rattle.swmm_rules.specs.declared.complaint.Role.{Role}
@@ -8,7 +8,7 @@ use Rattle.swmm_rules.specs.declared.complaint.Complaint.{Complaint}
 use Rattle.swmm_rules.specs.declared.complaint.Complaint.TheVariants as complaint
 use Rattle.swmm_rules.specs.declared.status.Status.{Status}
 use Rattle.swmm_rules.specs.declared.status.Status.TheVariants.{Done, Refused, Usage, Device, NoMemory, Refuted, Undecided}
-use Rattle.swmm_rules.specs.Outcome.{outcome, outcome_of, trace_told, text_of_taken}
+use Rattle.swmm_rules.specs.Outcome.{outcome, outcome_of, trace_told, text_of_taken, input_budget}
 use Rattle.swmm_rules.specs.Says.{said_of, usage_line, out_of_memory_line, read_failed_line, write_failed_line}
 
 -- the status that a complaint ends with (own)
@@ -43,14 +43,15 @@ pub record WritesFront (input trace : List ℕ) (was now : Option (List ℕ)) (w
   pub lines : write_failed ⊎ WritesFirst input trace was now
 
 -- what a replay of an input file and a trace leaves, by its status (own):
--- Done and Refused come as the outcome says, with its whole text and its line; else the front of the text is written, whole rows alone unless a
+-- Done and Refused come as the outcome says, with its whole text and its line, and an input file within its budget was then read to its end; else the front of the text is written, whole rows alone unless a
 -- write to the output failed
 abbrev pub Replays : List ℕ → List ℕ → Option (List ℕ) → Option (List ℕ) → Option (List ℕ) → Option (List ℕ) → Option (List ℕ)
     → Option (List ℕ) → Option (List ℕ) → Type 0 → Type 0 → Status → Type 0
 Replays input trace slot1 left0 left1 out_was out_now err_was err_now out_failed err_failed Done =
     ((outcome input trace).complaint ≡ None) × Appends out_was out_now (outcome input trace).output × IsAtEnd left0 × (left1 ≡ Some [])
 Replays input trace slot1 left0 left1 out_was out_now err_was err_now out_failed err_failed Refused =
-    MatchOption (outcome input trace).complaint ⊥ (λ line. Appends err_was err_now line) × Appends out_was out_now (outcome input trace).output
+    MatchOption (outcome input trace).complaint ⊥ (λ line. Appends err_was err_now line)
+    × Appends out_was out_now (outcome input trace).output × (length input ≤ input_budget → IsAtEnd left0)
 Replays input trace slot1 left0 left1 out_was out_now err_was err_now out_failed err_failed NoMemory =
     WritesFront input trace out_was out_now ⊥
 Replays input trace slot1 left0 left1 out_was out_now err_was err_now out_failed err_failed Device =

@@ -1,12 +1,12 @@
 -- What the steps of a run leave. These words serve the contracts inside the crate.
-use Rattle.std.specs.Prelude.{◌≡◌, ℕ, Bool, true, false, List, [], Option, Some, None, Result, Ok, Err, IsTrue, ◌⊎◌}
+use Rattle.std.specs.Prelude.{◌≡◌, ℕ, Bool, true, false, List, [], Option, Some, None, Result, Ok, Err, IsTrue, ◌⊎◌, length, ◌≤◌}
 use Rattle.std.specs.Io.KnownBytes.{Appends, IsAtEnd}
 use Rattle.byte_edge.specs.Devices.{Rose, AppendsPrefix}
 use Rattle.swmm_rules.specs.declared.complaint.Complaint.{Complaint}
 use Rattle.swmm_rules.specs.declared.complaint.Complaint.TheVariants.{Usage, Refused, TooLong, Trace, ReadFailed, WriteFailed, OutOfMemory}
 use Rattle.swmm_rules.specs.declared.status.Status.{Status}
 use Rattle.swmm_rules.specs.declared.status.Status.TheVariants.{Device, NoMemory}
-use Rattle.swmm_rules.specs.Outcome.{outcome}
+use Rattle.swmm_rules.specs.Outcome.{outcome, input_budget}
 use Rattle.swmm_rules.specs.Says.{said_of, out_of_memory_line}
 use Rattle.swmm_rules.specs.Runs.{WritesFirst, Interrupted, status_of, slot_of}
 
@@ -14,12 +14,19 @@ use Rattle.swmm_rules.specs.Runs.{WritesFirst, Interrupted, status_of, slot_of}
 abbrev pub EndsWith : List ℕ → List ℕ → Option (List ℕ) → Option (List ℕ) → Option (List ℕ) → Type 0
 EndsWith input trace was now said = ((outcome input trace).complaint ≡ said) × Appends was now (outcome input trace).output
 
+-- an input file within its budget was read to its end (own)
+abbrev pub WasRead : List ℕ → Option (List ℕ) → Type 0
+WasRead input left0 = length input ≤ input_budget → IsAtEnd left0
+
 -- what a replay of these bytes leaves, by its answer (own)
 abbrev pub Comes : List ℕ → List ℕ → Option (List ℕ) → Option (List ℕ) → Option (List ℕ) → Option (List ℕ) → Option (List ℕ) → Result (Unit {0}) Complaint → Type 0
 Comes input trace slot1 left0 left1 was now (Ok done) = EndsWith input trace was now None × IsAtEnd left0 × (left1 ≡ Some [])
-Comes input trace slot1 left0 left1 was now (Err (Refused refusal)) = EndsWith input trace was now (Some (said_of (Refused refusal)))
-Comes input trace slot1 left0 left1 was now (Err (TooLong r)) = EndsWith input trace was now (Some (said_of (TooLong r)))
-Comes input trace slot1 left0 left1 was now (Err (Trace line cause)) = EndsWith input trace was now (Some (said_of (Trace line cause)))
+Comes input trace slot1 left0 left1 was now (Err (Refused refusal)) =
+    EndsWith input trace was now (Some (said_of (Refused refusal))) × WasRead input left0
+Comes input trace slot1 left0 left1 was now (Err (TooLong r)) =
+    EndsWith input trace was now (Some (said_of (TooLong r))) × WasRead input left0
+Comes input trace slot1 left0 left1 was now (Err (Trace line cause)) =
+    EndsWith input trace was now (Some (said_of (Trace line cause))) × WasRead input left0
 Comes input trace slot1 left0 left1 was now (Err (ReadFailed r)) = Interrupted input trace slot1 left1 was now
 Comes input trace slot1 left0 left1 was now (Err WriteFailed) = AppendsPrefix was now (outcome input trace).output
 Comes input trace slot1 left0 left1 was now (Err OutOfMemory) = WritesFirst input trace was now

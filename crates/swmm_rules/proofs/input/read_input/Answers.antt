@@ -10,7 +10,8 @@ use Rattle.swmm_rules.proofs.input.read_input.Goals as goal
 pub returns-in-Err-TooLong-clause-reads : goal.returns-in-Err-TooLong-clause-reads
 returns-in-Err-TooLong-clause-reads g c = λ input held.
     let left : g.F.Files.left c.open_file.new.self 0 ≡ Some input = search rules in
-    too_long_complaint input (at_bytes _ input (λ bytes. 67108864 < length bytes) left (c.in-Err-TooLong.ensures.too_long (ap Err c.in-Err-TooLong.field-0-is)))
+    let long = at_bytes _ input (λ bytes. 67108864 < length bytes) left (c.in-Err-TooLong.ensures.too_long (ap Err c.in-Err-TooLong.field-0-is)) in
+    (too_long_complaint input long, long)
 
 pub returns-in-Ok-read_model-clause-reads : goal.returns-in-Ok-read_model-clause-reads
 returns-in-Ok-read_model-clause-reads g c = λ input held.

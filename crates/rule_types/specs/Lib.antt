@@ -1,0 +1,10 @@
+pub mod Causes
+pub mod Finding
+pub mod Fitting
+pub mod Formulas
+pub mod KeyOrder
+pub mod Keys
+pub mod Ranks
+pub mod Reading
+pub mod Tables
+pub mod WellFormed

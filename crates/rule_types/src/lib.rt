@@ -1,0 +1,29 @@
+//! The types of control rules, of the states that they are read at and of the answers that reading gives: plain data
+//! with equality. What well formed rules are, and which states fit them, stands in specs/.
+#![tactic(auto)]
+
+mod action;
+mod condition;
+mod expr;
+mod interval;
+mod key;
+mod names;
+mod object;
+mod refusal;
+mod rule;
+mod rules;
+mod state;
+mod stop;
+
+pub use action::{Action, ActionAt, Branch, CurveNo, Order, PidMemory, PidSet, SeriesNo, What};
+pub use condition::{Condition, Right, Side};
+pub use expr::Expr;
+pub use interval::{Bound, Interval};
+pub use key::{Attr, ClockAttr, Key};
+pub use names::{NameDef, NameKind};
+pub use object::{ObjectKind, ObjectNo, ObjectWord, Space};
+pub use refusal::{AddFault, Cause, ReadFault, Refusal};
+pub use rule::Rule;
+pub use rules::Rules;
+pub use state::{LinkState, State};
+pub use stop::{ReadingEnd, RowStop, Stop, StopCause, StopPlace};

@@ -1,0 +1,44 @@
+//! Rules.
+ghost use Rattle.std.specs.Prelude.{◌≡◌, ◌↔◌, IsTrue};
+
+use crate::action::Action;
+use crate::condition::Condition;
+use exact_fraction::frac::Frac;
+use list_types::{Bytes, Items};
+use std::alloc::AllocError;
+
+/// A control rule (SWMM 5.2 manual, [CONTROLS]).
+#[derive(Debug, Drop, PartialEq, Eq)]
+pub struct Rule {
+    pub id: Bytes,
+    pub conditions: Items<Condition>,
+    pub then_actions: Items<Action>,
+    pub else_actions: Items<Action>,
+    /// None ranks below every number.
+    pub priority: Option<Frac>,
+}
+
+impl Rule {
+    /// Whether the two are the same rule.
+    #[tactic(auto, using(crate::proofs::Equal::sames))]
+    pub fn is_same(&self, other: &Rule) -> bool
+        ensures value { IsTrue result ↔ (self.now ≡ other.now) }
+    {
+        self == other
+    }
+}
+
+/// A copy takes memory, and equals its rule.
+impl Clone for Rule {
+    ghost is_clone = { λ rule copy. copy ≡ rule };
+
+    fn clone(&self) -> Result<Rule, AllocError> {
+        Ok(Rule {
+            id: self.id.clone()?,
+            conditions: self.conditions.clone()?,
+            then_actions: self.then_actions.clone()?,
+            else_actions: self.else_actions.clone()?,
+            priority: self.priority,
+        })
+    }
+}

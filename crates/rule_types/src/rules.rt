@@ -1,0 +1,135 @@
+//! All rules of a file.
+ghost use Rattle.std.specs.Prelude.{◌≡◌, ◌↔◌, IsTrue, IfOk};
+
+use crate::key::Key;
+use crate::names::NameDef;
+use crate::rule::Rule;
+use byte_edge::NoMemory;
+use exact_fraction::frac::Frac;
+use exact_fraction::moment::Moment;
+use list_types::Items;
+use std::alloc::{AllocError, Global};
+
+/// The rules of a file with their names, and the keys and links that they read and act on (own).
+#[derive(Debug, Drop, PartialEq, Eq)]
+pub struct Rules {
+    /// The rules in the order of the file.
+    pub rules: Items<Rule>,
+    /// The variables and expressions in the order of the file.
+    pub names: Items<NameDef>,
+    /// The keys that are read from the trace, in key order.
+    pub input_keys: Items<Key>,
+    /// The links that an action acts on, or whose setting, status or timers are read, in link order.
+    pub tracked: Items<u32>,
+    /// The links that an action acts on, in link order.
+    pub controlled: Items<u32>,
+    /// For each controlled link whether it is a pump.
+    pub pumps: Items<bool>,
+    /// The initial setting of each tracked link.
+    pub initial: Items<Frac>,
+    /// The hours that each tracked link takes to open or close fully, 0 where it moves at once.
+    pub rates: Items<Frac>,
+    /// The moment of START_DATE and START_TIME; None without START_DATE.
+    pub start: Option<Moment>,
+    /// ROUTING_STEP in seconds.
+    pub routing_step: Frac,
+    /// RULE_STEP in seconds.
+    pub rule_step: Frac,
+}
+
+/// A copy takes memory, and equals its rules.
+impl Clone for Rules {
+    ghost is_clone = { λ rules copy. copy ≡ rules };
+
+    fn clone(&self) -> Result<Rules, AllocError> {
+        Ok(Rules {
+            rules: self.rules.clone()?,
+            names: self.names.clone()?,
+            input_keys: self.input_keys.clone()?,
+            tracked: self.tracked.clone()?,
+            controlled: self.controlled.clone()?,
+            pumps: self.pumps.clone()?,
+            initial: self.initial.clone()?,
+            rates: self.rates.clone()?,
+            start: self.start,
+            routing_step: self.routing_step,
+            rule_step: self.rule_step,
+        })
+    }
+}
+
+impl Rules {
+    /// Whether the two are the same rules.
+    #[tactic(auto, using(crate::proofs::Equal::sames))]
+    pub fn is_same(&self, other: &Rules) -> bool
+        ensures value { IsTrue result ↔ (self.now ≡ other.now) }
+    {
+        self == other
+    }
+
+    /// Rules that equal these: NoMemory only where memory is wanting. It costs time by the size of the rules.
+    pub fn copy(&self, _alloc: Global) -> Result<Rules, NoMemory>
+        ensures value { IfOk result (λ copy. copy ≡ self.now) }
+    {
+        match self.clone() {
+            Ok(copy) => Ok(copy),
+            Err(_) => Err(NoMemory),
+        }
+    }
+}
+
+#[cfg(test)]
+mod tests {
+    use super::*;
+    use crate::expr::Expr;
+    use crate::names::NameKind;
+    use list_types::Boxed;
+
+    // The expression `b` for `-a`, where `a` is the first name.
+    fn expression(alloc: Global) -> Result<NameDef, AllocError> {
+        let formula = Expr::Neg(Boxed::new(alloc, Expr::Name(0))?);
+        let name = Items::from_vec(vec![in alloc; b'b']?);
+        Ok(NameDef {
+            name,
+            stands_for: NameKind::Formula(formula),
+        })
+    }
+
+    // Rules of these names alone.
+    fn rules_of(alloc: Global, names: Items<NameDef>, controlled: Items<u32>) -> Rules {
+        Rules {
+            rules: Items::new(alloc),
+            names,
+            input_keys: Items::new(alloc),
+            tracked: Items::new(alloc),
+            controlled,
+            pumps: Items::new(alloc),
+            initial: Items::new(alloc),
+            rates: Items::new(alloc),
+            start: None,
+            routing_step: Frac::one(),
+            rule_step: Frac::zero(),
+        }
+    }
+
+    #[test]
+    fn a_copy_equals_its_rules(rt: HostRuntime) -> Result<(), AllocError> {
+        let names = Items::from_vec(vec![in rt.alloc(); expression(rt.alloc())?]?);
+        let rules = rules_of(rt.alloc(), names, Items::new(rt.alloc()));
+        let Ok(copy) = rules.copy(rt.alloc()) else {
+            return Err(AllocError);
+        };
+        assert!(rt; copy.is_same(&rules));
+        assert!(rt; copy.names.len() == 1);
+        Ok(())
+    }
+
+    #[test]
+    fn a_copied_formula_equals_it(rt: HostRuntime) -> Result<(), AllocError> {
+        let formula = Expr::Neg(Boxed::new(rt.alloc(), Expr::Number(Frac::one()))?);
+        let copy = formula.clone()?;
+        assert!(rt; copy.is_same(&formula));
+        assert!(rt; copy != Expr::Name(0));
+        Ok(())
+    }
+}

@@ -1,0 +1,55 @@
+//! States of the network, at which rules are read.
+ghost use Rattle.std.specs.Prelude.{◌≡◌, ◌↔◌, IsTrue};
+
+use exact_fraction::frac::Frac;
+use exact_fraction::moment::Moment;
+use list_types::Items;
+use std::alloc::AllocError;
+
+/// The state of a tracked link (own).
+#[derive(Clone, Copy, Debug, PartialEq, Eq)]
+pub struct LinkState {
+    pub setting: Frac,
+    /// Where the setting moves to.
+    pub target: Frac,
+    /// Hours since the link's last switch, and before the first one since the start.
+    pub timer: Frac,
+}
+
+/// A state at which rules are read (own).
+#[derive(Debug, Drop, PartialEq, Eq)]
+pub struct State {
+    pub moment: Moment,
+    pub start: Moment,
+    /// The time since the last reading, in seconds.
+    pub step: Frac,
+    /// The number of each input key, or None where it is missing.
+    pub inputs: Items<Option<Frac>>,
+    /// The state of each tracked link.
+    pub links: Items<LinkState>,
+}
+
+impl State {
+    /// Whether the two are the same state.
+    #[tactic(auto, using(crate::proofs::Equal::sames))]
+    pub fn is_same(&self, other: &State) -> bool
+        ensures value { IsTrue result ↔ (self.now ≡ other.now) }
+    {
+        self == other
+    }
+}
+
+/// A copy takes memory, and equals its state.
+impl Clone for State {
+    ghost is_clone = { λ state copy. copy ≡ state };
+
+    fn clone(&self) -> Result<State, AllocError> {
+        Ok(State {
+            moment: self.moment,
+            start: self.start,
+            step: self.step,
+            inputs: self.inputs.clone()?,
+            links: self.links.clone()?,
+        })
+    }
+}

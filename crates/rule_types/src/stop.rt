@@ -1,0 +1,55 @@
+//! Stops: readings that have no result.
+ghost use Rattle.std.specs.Prelude.{◌≡◌, ◌↔◌, IsTrue};
+
+use crate::action::ActionAt;
+
+/// Why a reading stops (own).
+#[derive(Clone, Copy, Debug, PartialEq, Eq)]
+pub enum StopCause {
+    /// A result does not fit.
+    Overflow,
+    /// A divisor is 0.
+    ZeroDivisor,
+}
+
+/// Where a reading stops (own).
+#[derive(Clone, Copy, Debug, PartialEq, Eq)]
+pub enum StopPlace {
+    /// At the used name of this place among the names.
+    Name(u32),
+    /// At a listed action.
+    Action(ActionAt),
+}
+
+/// The first place at which a reading has no result, and why (own).
+#[derive(Clone, Copy, Debug, PartialEq, Eq)]
+pub struct Stop {
+    pub place: StopPlace,
+    pub cause: StopCause,
+}
+
+impl Stop {
+    /// Whether the two are the same stop.
+    #[tactic(auto, using(crate::proofs::Equal::sames))]
+    pub fn is_same(&self, other: &Stop) -> bool
+        ensures value { IsTrue result ↔ (self.now ≡ other.now) }
+    {
+        self == other
+    }
+}
+
+/// Why the reading of one state gives no orders (own).
+#[derive(Clone, Copy, Debug, PartialEq, Eq)]
+pub enum ReadingEnd {
+    Stop(Stop),
+    NoMemory,
+}
+
+/// Why a row of a replay gives no settings (own).
+#[derive(Clone, Copy, Debug, PartialEq, Eq)]
+pub enum RowStop {
+    /// The reading of this row stops.
+    Stop(Stop),
+    /// An earlier row stopped.
+    Stopped(Stop),
+}
