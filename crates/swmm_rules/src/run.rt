@@ -39,6 +39,9 @@ pub fn run<F: Files, O: Sink, E: Sink>(
         (O.written out.old) (O.written out.new) (E.written err.old) (E.written err.new)
         (Rose (O.faults out.old) (O.faults out.new)) (Rose (E.faults err.old) (E.faults err.new)) result) }
 
+    // Nothing is written where the trace was not opened, whatever the files object tells.
+    ensures unopened { ¬ F.is_open files.new 1 → Appends (O.written out.old) (O.written out.new) [] }
+
     // One line is said where the status is not Done.
     ensures says { Says (F.faults files.old) (F.faults files.new)
         (Rose (O.faults out.old) (O.faults out.new)) (Rose (E.faults err.old) (E.faults err.new))
@@ -94,6 +97,7 @@ fn replay<F: Files, O: Sink>(
     ensures comes { (input_bytes trace_bytes : List ℕ) → F.held files.old input.now ≡ Some input_bytes
         → (input_complaint input_bytes ≡ None → F.held files.old trace.now ≡ Some trace_bytes)
         → Comes input_bytes trace_bytes (F.left files.old 1) (F.left files.new 0) (F.left files.new 1) (O.written out.old) (O.written out.new) result }
+    ensures opened { F.is_open files.new 1 ⊎ Appends (O.written out.old) (O.written out.new) [] }
     ensures counts { CountsOf (F.faults files.old) (F.faults files.new) (O.faults out.old) (O.faults out.new) result }
 {
     let model = read_input(alloc, input, files)?;

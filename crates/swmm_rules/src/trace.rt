@@ -1,5 +1,6 @@
 //! A trace, from its header to its end.
-ghost use Rattle.std.specs.Prelude.{Option, Some, ◌≡◌, ◌<◌, ◌≤◌, ◌+◌, ◌*◌, ◌^◌, ℕ, List, All, length, OnOk, OnErr, IfSome, IfOk, false, true, ◌∷◌, ◌++◌, MatchResult};
+ghost use Rattle.std.specs.Prelude.{◌≡◌, ◌⊎◌, ◌<◌, ◌^◌, ℕ, List, [], All, length, OnOk, OnErr, Option, Some, false, true};
+ghost use Rattle.std.specs.Io.KnownBytes.{Appends};
 ghost use Rattle.byte_edge.specs.Lines.{newlines};
 ghost use Rattle.byte_edge.specs.Devices.{SameElsewhere, CountsFollow};
 ghost use Rattle.byte_edge.specs.ReaderState.{ahead, to_come, WhereTold, KnowsEnd};
@@ -38,6 +39,7 @@ pub fn replay_trace<F: Files, O: Sink>(
         PrintsTrace (printed (contents_of model.now)) trace (F.left files.old 1) (F.left files.new 1) (O.written out.old) (O.written out.new) result }
     ensures ends { IsTraceEnd result }
 
+    ensures opened { F.is_open files.new 1 ⊎ Appends (O.written out.old) (O.written out.new) [] }
     ensures other_slots { SameElsewhere 1 (F.left files.old) (F.left files.new) }
     ensures counts { CountsFollow (is_read_failed result) 1 (F.faults files.old) (F.faults files.new) }
     ensures other_counts { SameElsewhere 1 (F.faults files.old) (F.faults files.new) }
@@ -63,6 +65,7 @@ fn replay_opened<F: Files, O: Sink>(
         Prints (printed (contents_of model.now)) (trace_told before) (newlines before) after (O.written out.old) (O.written out.new) result) }
     ensures ends { IsTraceEnd result }
 
+    ensures stays_open { F.is_open files.new 1 }
     ensures other_slots { SameElsewhere 1 (F.left files.old) (F.left files.new) }
     ensures counts { CountsFollow (is_read_failed result) 1 (F.faults files.old) (F.faults files.new) }
     ensures other_counts { SameElsewhere 1 (F.faults files.old) (F.faults files.new) }
@@ -117,6 +120,7 @@ fn replay_lines<F: Files, O: Sink>(
         (O.written out.old) (O.written out.new) result) }
     ensures ends { IsTraceEnd result }
 
+    ensures stays_open { F.is_open files.new 1 }
     ensures other_slots { SameElsewhere 1 (F.left files.old) (F.left files.new) }
     ensures counts { CountsFollow (is_read_failed result) 1 (F.faults files.old) (F.faults files.new) }
     ensures other_counts { SameElsewhere 1 (F.faults files.old) (F.faults files.new) }
@@ -195,6 +199,7 @@ fn replay_rows<F: Files, O: Sink>(
     ensures ends { IsTraceEnd result }
     ensures awake { is_read_failed result ≡ true → reader.old.ended ≡ false }
 
+    ensures stays_open { F.is_open files.new 1 }
     ensures names { (name : List ℕ) → F.held files.new name ≡ F.held files.old name }
     ensures other_slots { SameElsewhere 1 (F.left files.old) (F.left files.new) }
     ensures counts { CountsFollow (is_read_failed result) 1 (F.faults files.old) (F.faults files.new) }
