@@ -1,0 +1,10 @@
+pub mod Bools
+pub mod CutOrder
+pub mod EdgeOrder
+pub mod Equality
+pub mod Merging
+pub mod NormalForm
+pub mod OfRelation
+pub mod Pairing
+pub mod PieceEdges
+pub mod Unique

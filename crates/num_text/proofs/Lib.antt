@@ -1,0 +1,14 @@
+pub mod Digits
+pub mod Days
+pub mod Years
+pub mod Places
+pub mod Cuts
+pub mod RoundTrips
+pub mod Fits
+pub mod Hours
+pub mod Zeros
+pub mod Bounds
+pub mod WrittenDecimals
+pub mod ValueTrips
+pub mod June
+pub mod Tens

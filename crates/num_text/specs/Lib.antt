@@ -1,0 +1,9 @@
+pub mod Fields
+pub mod Dates
+pub mod Clocks
+pub mod Views
+pub mod Written
+pub mod Times
+pub mod Numbers
+pub mod Values
+pub mod Stands

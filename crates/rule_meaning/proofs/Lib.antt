@@ -1,0 +1,9 @@
+pub mod Days
+pub mod Dues
+pub mod Listed
+pub mod Listing
+pub mod Members
+pub mod Moves
+pub mod Premises
+pub mod Settling
+pub mod Values

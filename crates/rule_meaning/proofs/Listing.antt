@@ -1,0 +1,65 @@
+-- Each rule lists one of its branches.
+use Rattle.std.proofs.Common.{◌≡◌, ℕ, suc, ◌≤◌, List, [], ◌∷◌, ◌++◌, ◌⊎◌, inl, inr, sym, ap, ◌∙◌, arith}
+use Rattle.rule_types.specs.declared.action.Action.{Action}
+use Rattle.rule_types.specs.declared.action.ActionAt.{ActionAt}
+use Rattle.rule_types.specs.declared.action.Branch.{Branch}
+use Rattle.rule_types.specs.declared.rule.Rule.{Rule}
+use Rattle.rule_types.specs.declared.rules.Rules.{Rules}
+use Rattle.rule_types.specs.declared.state.State.{State}
+use Rattle.rule_types.specs.Reading.{branch_actions}
+use Rattle.rule_meaning.specs.Premise.{places_of, listed_branch, listed_from, listed}
+use Rattle.rule_meaning.specs.Settled.{IsIn, IsOneBranchEach}
+
+in_later : {A : Type 0} (xs ys : List A) (x y : A) → IsIn xs x ⊎ IsIn ys x → IsIn (y ∷ xs) x ⊎ IsIn ys x
+in_later xs ys x y (inl h) = inl (inr h)
+in_later xs ys x y (inr h) = inr h
+
+pub in_append : {A : Type 0} (xs ys : List A) (x : A) → IsIn (xs ++ ys) x → IsIn xs x ⊎ IsIn ys x
+in_append [] ys x h = inr h
+in_append (y ∷ xs) ys x (inl e) = inl (inl e)
+in_append (y ∷ xs) ys x (inr later) = in_later xs ys x y (in_append xs ys x later)
+
+abbrev rule_in : ActionAt → ℕ
+rule_in p = p.rule
+
+abbrev branch_in : ActionAt → Branch
+branch_in p = p.branch
+
+pub placed : (rule : ℕ) (branch : Branch) (at : ℕ) (actions : List Action) (p : ActionAt) → IsIn (places_of rule branch at actions) p → (p.rule ≡ rule) × (p.branch ≡ branch)
+placed rule branch at [] p h = absurd h
+placed rule branch at (one ∷ more) p (inl e) = (ap rule_in (sym e), ap branch_in (sym e))
+placed rule branch at (one ∷ more) p (inr later) = placed rule branch (suc at) more p later
+
+abbrev here : Rules → State → ℕ → Rule → List ActionAt
+here x s n one = places_of n (listed_branch x s one) 0 (branch_actions one (listed_branch x s one))
+
+not_before_by : (n : ℕ) (heads tails : List ActionAt) (p : ActionAt) → (IsIn heads p → p.rule ≡ n) → (IsIn tails p → suc n ≤ p.rule) → IsIn heads p ⊎ IsIn tails p → n ≤ p.rule
+not_before_by n heads tails p at later (inl h) = omega (arith, at h)
+not_before_by n heads tails p at later (inr h) = omega (arith, later h)
+
+pub not_before : (x : Rules) (s : State) (n : ℕ) (rules : List Rule) (p : ActionAt) → IsIn (listed_from x s n rules) p → n ≤ p.rule
+not_before x s n [] p h = absurd h
+not_before x s n (one ∷ more) p h =
+    not_before_by n (here x s n one) (listed_from x s (suc n) more) p
+    (λ at. (placed n (listed_branch x s one) 0 (branch_actions one (listed_branch x s one)) p at).0)
+    (λ later. not_before x s (suc n) more p later)
+    (in_append (here x s n one) (listed_from x s (suc n) more) p h)
+
+same_branch_by : (n : ℕ) (branch : Branch) (heads tails : List ActionAt) (p q : ActionAt) → ((z : ActionAt) → IsIn heads z → (z.rule ≡ n) × (z.branch ≡ branch)) → ((z : ActionAt) → IsIn tails z → suc n ≤ z.rule) → (IsIn tails p → IsIn tails q → p.branch ≡ q.branch) → p.rule ≡ q.rule → IsIn heads p ⊎ IsIn tails p → IsIn heads q ⊎ IsIn tails q → p.branch ≡ q.branch
+same_branch_by n branch heads tails p q at later rest e (inl h) (inl g) = (at p h).1 ∙ sym ((at q g).1)
+same_branch_by n branch heads tails p q at later rest e (inl h) (inr g) = absurd (omega (arith, (at p h).0, later q g, e))
+same_branch_by n branch heads tails p q at later rest e (inr h) (inl g) = absurd (omega (arith, (at q g).0, later p h, e))
+same_branch_by n branch heads tails p q at later rest e (inr h) (inr g) = rest h g
+
+same_branch : (x : Rules) (s : State) (n : ℕ) (rules : List Rule) (p q : ActionAt) → p.rule ≡ q.rule → IsIn (listed_from x s n rules) p → IsIn (listed_from x s n rules) q → p.branch ≡ q.branch
+same_branch x s n [] p q e h g = absurd h
+same_branch x s n (one ∷ more) p q e h g =
+    same_branch_by n (listed_branch x s one) (here x s n one) (listed_from x s (suc n) more) p q
+    (λ z at. placed n (listed_branch x s one) 0 (branch_actions one (listed_branch x s one)) z at)
+    (λ z later. not_before x s (suc n) more z later)
+    (λ h' g'. same_branch x s (suc n) more p q e h' g') e
+    (in_append (here x s n one) (listed_from x s (suc n) more) p h)
+    (in_append (here x s n one) (listed_from x s (suc n) more) q g)
+
+pub one_branch_each : (x : Rules) (s : State) → IsOneBranchEach (listed x s)
+one_branch_each x s = record { branch = λ p q h g e. same_branch x s 0 x.rules p q e h g }

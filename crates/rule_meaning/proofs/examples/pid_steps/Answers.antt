@@ -1,0 +1,24 @@
+-- The definitions compute the examples.
+use Rattle.std.proofs.Common.{refl}
+use Rattle.jiff_core.specs.Calendar.{days_from_civil, day_count, days_of_years, days_of_months, weekday_number}
+use Rattle.exact_fraction.specs.Number.{den, last_remainder, gcd, cancelled, ratio, whole, fits}
+use Rattle.exact_fraction.specs.Operations.{sum_of, difference_of, product_of, quotient_of, quotient_parts, negation_of, nearest_whole, round9_of}
+use Rattle.exact_fraction.specs.Order.{less, same}
+use Rattle.exact_fraction.specs.Checked.{checked, is_zero}
+use Rattle.rule_meaning.proofs.examples.pid_steps.Goals as goal
+
+pub returns-clause-orifice : goal.returns-clause-orifice
+unfolding den last_remainder gcd cancelled ratio whole fits checked is_zero less same sum_of difference_of product_of quotient_of quotient_parts negation_of nearest_whole round9_of days_from_civil day_count days_of_years days_of_months weekday_number
+returns-clause-orifice c = refl
+
+pub returns-clause-pump : goal.returns-clause-pump
+unfolding den last_remainder gcd cancelled ratio whole fits checked is_zero less same sum_of difference_of product_of quotient_of quotient_parts negation_of nearest_whole round9_of days_from_civil day_count days_of_years days_of_months weekday_number
+returns-clause-pump c = refl
+
+pub returns-clause-no_set_point : goal.returns-clause-no_set_point
+unfolding den last_remainder gcd cancelled ratio whole fits checked is_zero less same sum_of difference_of product_of quotient_of quotient_parts negation_of nearest_whole round9_of days_from_civil day_count days_of_years days_of_months weekday_number
+returns-clause-no_set_point c = refl
+
+pub returns-clause-too_large : goal.returns-clause-too_large
+unfolding den last_remainder gcd cancelled ratio whole fits checked is_zero less same sum_of difference_of product_of quotient_of quotient_parts negation_of nearest_whole round9_of days_from_civil day_count days_of_years days_of_months weekday_number
+returns-clause-too_large c = refl

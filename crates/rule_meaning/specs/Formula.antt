@@ -1,0 +1,114 @@
+-- What expressions are worth at a state.
+use Rattle.std.specs.Prelude.{ℕ, suc, Bool, ◌==◌, if◌then◌else◌, Option, Some, None, Result, Ok, Err, List, [], ◌∷◌, slice_get}
+use Rattle.std.specs.Prelude.{zero as nothing}
+use Rattle.std.specs.List.{list_any}
+use Rattle.exact_fraction.specs.Number.{Rational, zero, one, fits}
+use Rattle.exact_fraction.specs.Operations.{sum_of, difference_of, product_of, quotient_of, negation_of}
+use Rattle.exact_fraction.specs.Order.{less}
+use Rattle.exact_fraction.specs.Checked.{is_zero}
+use Rattle.rule_types.specs.declared.expr.Expr.{Expr}
+use Rattle.rule_types.specs.declared.expr.Expr.TheOpen.{Expr-F}
+use Rattle.rule_types.specs.declared.expr.Expr.TheFolds.{fold-Expr}
+use Rattle.rule_types.specs.declared.names.NameDef.{NameDef}
+use Rattle.rule_types.specs.declared.names.NameKind.{NameKind}
+use Rattle.rule_types.specs.declared.names.NameKind.TheVariants.{Variable, Formula}
+use Rattle.rule_types.specs.declared.rules.Rules.{Rules}
+use Rattle.rule_types.specs.declared.state.State.{State}
+use Rattle.rule_types.specs.declared.stop.StopCause.{StopCause}
+use Rattle.rule_types.specs.declared.stop.StopCause.TheVariants as cause
+use Rattle.rule_types.specs.declared.stop.StopPlace.TheVariants as place
+use Rattle.rule_types.specs.declared.stop.Stop.{Stop}
+use Rattle.rule_types.specs.Reading.{used_names}
+use Rattle.rule_meaning.specs.State.{value}
+
+-- what a formula gives: a number or nothing, or a stop (own)
+abbrev pub Derived : Type 0
+Derived = Result (Option Rational) StopCause
+
+-- a number that fits, or Overflow (own)
+abbrev pub fitted : Rational → Derived
+fitted q = if fits q then Ok (Some q) else Err cause.Overflow
+
+-- an operand that is a number goes on; one that is missing or stops is the result (own)
+abbrev pub on_number : Derived → (Rational → Derived) → Derived
+on_number (Ok (Some p)) next = next p
+on_number (Ok None) next = Ok None
+on_number (Err why) next = Err why
+
+-- two operands, the left one first (own)
+abbrev pub on_numbers : Derived → Derived → (Rational → Rational → Derived) → Derived
+on_numbers a b next = on_number a (λ p. on_number b (next p))
+
+-- -1, 0 or 1 by the sign (SWMM 5.2 manual, [CONTROLS], sgn; at 0: own)
+abbrev pub sign_of : Rational → Rational
+sign_of p = if less p zero then negation_of one else (if less zero p then one else zero)
+
+-- the number without its sign (SWMM 5.2 manual, [CONTROLS], abs)
+abbrev pub size_of : Rational → Rational
+size_of p = if less p zero then negation_of p else p
+
+-- 0 where it is at most 0, else 1 (SWMM 5.2 manual, [CONTROLS], step)
+abbrev pub step_of : Rational → Rational
+step_of p = if less zero p then one else zero
+
+-- the quotient: ZeroDivisor where the divisor is 0 (own)
+abbrev pub divided : Rational → Rational → Derived
+divided p q = if is_zero q then Err cause.ZeroDivisor else fitted (quotient_of p q)
+
+-- p to the power 0 is 1, and p^n is p^(n-1) * p (own)
+abbrev pub power : Rational → ℕ → Derived
+power p nothing = Ok (Some one)
+power p (suc n) = on_number (power p n) (λ q. fitted (product_of q p))
+
+-- one node of a formula, with what each operand gives in its place, where the variables give what `variable` says
+-- (own)
+abbrev pub worked_step : (ℕ → Derived) → Expr-F Derived → Derived
+worked_step variable (Expr-F.Number q) = Ok (Some q)
+worked_step variable (Expr-F.Name n) = variable n
+worked_step variable (Expr-F.Neg a) = on_number a (λ p. Ok (Some (negation_of p)))
+worked_step variable (Expr-F.Abs a) = on_number a (λ p. Ok (Some (size_of p)))
+worked_step variable (Expr-F.Sgn a) = on_number a (λ p. Ok (Some (sign_of p)))
+worked_step variable (Expr-F.Step a) = on_number a (λ p. Ok (Some (step_of p)))
+worked_step variable (Expr-F.Add a b) = on_numbers a b (λ p q. fitted (sum_of p q))
+worked_step variable (Expr-F.Sub a b) = on_numbers a b (λ p q. fitted (difference_of p q))
+worked_step variable (Expr-F.Mul a b) = on_numbers a b (λ p q. fitted (product_of p q))
+worked_step variable (Expr-F.Div a b) = on_numbers a b divided
+worked_step variable (Expr-F.Pow a n) = on_number a (λ p. power p n)
+
+-- what the variable of a place gives: the value of its key (SWMM 5.2 manual, [CONTROLS], VARIABLE)
+abbrev pub variable_kind : Rules → State → NameKind → Derived
+variable_kind x s (Variable key) = Ok (value x s key)
+variable_kind x s (Formula formula) = Ok None
+
+abbrev pub variable_named : Rules → State → Option NameDef → Derived
+variable_named x s None = Ok None
+variable_named x s (Some named) = variable_kind x s named.stands_for
+
+-- the value of a formula at a state: from the left to the right, the first operand that is missing, overflows or divides by
+-- zero is the result (SWMM 5.2 manual, [CONTROLS], EXPRESSION; missing values and stops: own)
+abbrev pub formula_value : Rules → State → Expr → Derived
+formula_value x s = fold-Expr Derived (worked_step (λ n. variable_named x s (slice_get x.names n)))
+
+-- the value of what a name stands for (SWMM 5.2 manual, [CONTROLS])
+abbrev pub kind_value : Rules → State → NameKind → Derived
+kind_value x s (Variable key) = Ok (value x s key)
+kind_value x s (Formula formula) = formula_value x s formula
+
+-- whether a name is used: it stands on a side of a condition, or in an expression that does (own)
+abbrev pub is_used : Rules → ℕ → Bool
+is_used x name = list_any (λ other. name == other) (used_names x.names x.rules)
+
+-- the first stop of the used names, in the order of the file from `at` on (own)
+abbrev pub stop_or : ℕ → Derived → Option Stop → Option Stop
+stop_or at (Ok found) later = later
+stop_or at (Err why) later = Some (record { place = place.Name at; cause = why })
+
+abbrev pub stop_from : Rules → State → ℕ → List NameDef → Option Stop
+stop_from x s at [] = None
+stop_from x s at (named ∷ names) =
+    if is_used x at then stop_or at (kind_value x s named.stands_for) (stop_from x s (suc at) names)
+    else stop_from x s (suc at) names
+
+-- the first used name, in the order of the file, that overflows or divides by zero (own)
+abbrev pub names_stop : Rules → State → Option Stop
+names_stop x s = stop_from x s 0 x.names

@@ -1,0 +1,15 @@
+pub mod Clock
+pub mod Condition
+pub mod ExampleRules
+pub mod Examples
+pub mod Formula
+pub mod History
+pub mod Lines
+pub mod Movement
+pub mod Pid
+pub mod Premise
+pub mod Reading
+pub mod Settled
+pub mod State
+pub mod Steps
+pub mod Worth

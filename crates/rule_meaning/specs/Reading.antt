@@ -1,0 +1,99 @@
+-- What one reading of the rules gives.
+use Rattle.std.specs.Prelude.{ℕ, Option, Some, None, Result, Ok, Err, List, [], ◌∷◌, slice_get}
+use Rattle.exact_fraction.specs.Number.{Rational, zero}
+use Rattle.exact_fraction.specs.declared.error.Overflow.{Overflow}
+use Rattle.rule_types.specs.declared.action.Action.{Action}
+use Rattle.rule_types.specs.declared.action.ActionAt.{ActionAt}
+use Rattle.rule_types.specs.declared.action.Order.{Order}
+use Rattle.rule_types.specs.declared.action.PidMemory.{PidMemory}
+use Rattle.rule_types.specs.declared.action.What.{What}
+use Rattle.rule_types.specs.declared.action.What.TheVariants.{Constant, Curve, Series, Pid}
+use Rattle.rule_types.specs.declared.condition.Condition.{Condition}
+use Rattle.rule_types.specs.declared.rule.Rule.{Rule}
+use Rattle.rule_types.specs.declared.rules.Rules.{Rules}
+use Rattle.rule_types.specs.declared.state.State.{State}
+use Rattle.rule_types.specs.declared.stop.StopCause.TheVariants as cause
+use Rattle.rule_types.specs.declared.stop.StopPlace.TheVariants as place
+use Rattle.rule_types.specs.declared.stop.Stop.{Stop}
+use Rattle.rule_types.specs.Tables.{TableSet}
+use Rattle.rule_meaning.specs.Formula.{names_stop}
+use Rattle.rule_meaning.specs.Pid.{Stepped}
+use Rattle.rule_meaning.specs.Premise.{listed}
+use Rattle.rule_meaning.specs.Settled.{action_at, settled_on}
+use Rattle.rule_meaning.specs.Steps.{◌>>=◌}
+use Rattle.rule_meaning.specs.Worth.{worth, rule_pid}
+
+-- an overflow at an action's place (own)
+abbrev pub overflow_at : ActionAt → Stop
+overflow_at at = record { place = place.Action at; cause = cause.Overflow }
+
+-- the conditions of a pair's rule (own)
+abbrev pub conditions_of : Option Rule → List Condition
+conditions_of None = []
+conditions_of (Some rule) = rule.conditions
+
+abbrev pub conditions_at : List Rule → ActionAt → List Condition
+conditions_at rules at = conditions_of (slice_get rules at.rule)
+
+-- what the PID action at a place gives, and nothing where there is another action (own)
+abbrev pub pid_what : Rules → State → (ℕ → PidMemory) → List Condition → ℕ → What → Option (Result Stepped Overflow)
+pid_what x s memory conditions link (Constant q) = None
+pid_what x s memory conditions link (Curve curve) = None
+pid_what x s memory conditions link (Series series) = None
+pid_what x s memory conditions link (Pid set number) = Some (rule_pid x s memory conditions link set number)
+
+abbrev pub pid_action : Rules → State → (ℕ → PidMemory) → List Condition → Option Action → Option (Result Stepped Overflow)
+pid_action x s memory conditions None = None
+pid_action x s memory conditions (Some action) = pid_what x s memory conditions action.link action.what
+
+abbrev pub pid_at : Rules → State → (ℕ → PidMemory) → ActionAt → Option (Result Stepped Overflow)
+pid_at x s memory at = pid_action x s memory (conditions_at x.rules at) (action_at x.rules at)
+
+abbrev pub overflow_or : ActionAt → Option (Result Stepped Overflow) → Option Stop → Option Stop
+overflow_or at (Some (Err why)) later = Some (overflow_at at)
+overflow_or at (Some (Ok stepped)) later = later
+overflow_or at None later = later
+
+-- the first PID action of some pairs that overflows (own)
+abbrev pub pids_stop : Rules → State → (ℕ → PidMemory) → List ActionAt → Option Stop
+pids_stop x s memory [] = None
+pids_stop x s memory (at ∷ more) = overflow_or at (pid_at x s memory at) (pids_stop x s memory more)
+
+-- the order that a pair gives to its link, or its overflow (own)
+abbrev pub ordered : ℕ → ActionAt → Result Rational Overflow → Result Order Stop
+ordered link at (Ok q) = Ok (record { link = link; by = at; value = q })
+ordered link at (Err why) = Err (overflow_at at)
+
+abbrev pub action_worth : Rules → TableSet → State → (ℕ → PidMemory) → List Condition → Option Action → Result Rational Overflow
+action_worth x tables s memory conditions None = Ok zero
+action_worth x tables s memory conditions (Some action) = worth x tables s memory conditions action
+
+abbrev pub order_of : Rules → TableSet → State → (ℕ → PidMemory) → ℕ → ActionAt → Result Order Stop
+order_of x tables s memory link at =
+    ordered link at (action_worth x tables s memory (conditions_at x.rules at) (action_at x.rules at))
+
+-- the orders of the settled pairs, in the order of links; the first overflow is the stop (own)
+abbrev pub order_then : Rules → TableSet → State → (ℕ → PidMemory) → ℕ → Option ActionAt → Result (List Order) Stop → Result (List Order) Stop
+order_then x tables s memory link None later = later
+order_then x tables s memory link (Some at) later = do
+  first ← order_of x tables s memory link at
+  more ← later
+  Ok (first ∷ more)
+
+abbrev pub orders_on : Rules → TableSet → State → (ℕ → PidMemory) → List ActionAt → List ℕ → Result (List Order) Stop
+orders_on x tables s memory pairs [] = Ok []
+orders_on x tables s memory pairs (link ∷ links) =
+    order_then x tables s memory link (settled_on x.rules pairs link) (orders_on x tables s memory pairs links)
+
+-- a stop that has come, or what comes next (own)
+abbrev pub unless_stopped : {A : Type 0} → Option Stop → Result A Stop → Result A Stop
+unless_stopped None next = next
+unless_stopped (Some stop) next = Err stop
+
+-- One reading at a state, where the PID actions have these memories: the used names in the order of the file, then the listed
+-- PID actions in the order of rules and of actions, then the settled pairs in the order of links. The first overflow or zero
+-- divisor is the stop (own).
+abbrev pub read : Rules → TableSet → State → (ℕ → PidMemory) → Result (List Order) Stop
+read x tables s memory =
+    unless_stopped (names_stop x s)
+    (unless_stopped (pids_stop x s memory (listed x s)) (orders_on x tables s memory (listed x s) x.controlled))

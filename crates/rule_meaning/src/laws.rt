@@ -1,0 +1,115 @@
+//! Laws of the definitions. Each function here does nothing: its contract states laws in the words of the subject, for the
+//! proofs of the crates above.
+ghost use Rattle.std.specs.Prelude.{◌≡◌, ℕ, ◌↔◌, Bool, true, false, not, ◌⊎◌, IsTrue, IfOk, Option, Some, None, Result, Ok, Err, List, [], ◌∷◌, length, ◌≤ℤ◌, ◌≤◌, pos};
+ghost use Rattle.std.specs.List.{Contains, list_all, list_any, flat_map, AllZip};
+ghost use Rattle.std.specs.Option.{is_some};
+ghost use Rattle.exact_fraction.specs.Number.{Rational, zero, one};
+ghost use Rattle.exact_fraction.specs.Order.{◌≤ℚ◌};
+ghost use Rattle.rule_types.specs.declared.action.ActionAt.{ActionAt};
+ghost use Rattle.rule_types.specs.declared.action.PidMemory.{PidMemory};
+ghost use Rattle.rule_types.specs.declared.action.PidSet.{PidSet};
+ghost use Rattle.rule_types.specs.declared.condition.Condition.{Condition};
+ghost use Rattle.rule_types.specs.declared.key.Attr.TheVariants.{TimeOpen, TimeClosed};
+ghost use Rattle.rule_types.specs.declared.rule.Rule.{Rule};
+ghost use Rattle.rule_types.specs.declared.rules.Rules.{Rules};
+ghost use Rattle.rule_types.specs.declared.state.LinkState.{LinkState};
+ghost use Rattle.rule_types.specs.declared.state.State.{State};
+ghost use Rattle.rule_types.specs.declared.stop.Stop.{Stop};
+ghost use Rattle.rule_types.specs.Fitting.{FitsRules};
+ghost use Rattle.rule_types.specs.Tables.{Point, TableSet};
+ghost use Rattle.rule_types.specs.WellFormed.{has_rate};
+ghost use Rattle.jiff_core.specs.Calendar.{IsCivilDate, days_from_civil, day_of_year};
+ghost use Rattle.rule_meaning.specs.Clock.{IsClockDate};
+ghost use Rattle.rule_meaning.specs.State.{link_value};
+ghost use Rattle.rule_meaning.specs.Premise.{groups, premise_by, listed, IsListed};
+ghost use Rattle.rule_meaning.specs.Settled.{IsIn, is_on, IsSettled, settled_on, IsOneBranchEach};
+ghost use Rattle.rule_meaning.specs.Lines.{line_value};
+ghost use Rattle.rule_meaning.specs.Pid.{IsPidValue, pid_step};
+ghost use Rattle.rule_meaning.specs.Movement.{moved};
+ghost use Rattle.rule_meaning.specs.Reading.{read};
+ghost use Rattle.rule_meaning.specs.History.{is_due, memory, reading, standings, IsOnTheWay};
+
+/// The clock tells the date that the calendar has: of each civil date from the year 1 on, by its day number (own).
+pub fn dates()
+    ensures calendar { (y m d : ℕ) → 1 ≤ y → IsCivilDate (pos y) m d
+        → IsClockDate (days_from_civil (pos y) m d) y m (day_of_year (pos y) m d) }
+{}
+
+/// A link whose setting is at least 0 has just one of its two timers (own).
+pub fn timers()
+    ensures just_one { (link : LinkState) → zero ≤ℚ link.setting
+        → is_some (link_value TimeClosed link) ≡ not (is_some (link_value TimeOpen link)) }
+{}
+
+/// The groups of a premise in a row are its conditions. Where each condition is joined by AND all must hold, and where none
+/// after the first one is, one that holds is enough (SWMM 5.2 manual, [CONTROLS], premises).
+pub fn premises()
+    ensures in_a_row { (cs : List Condition) → flat_map (λ g. g) (groups cs) ≡ cs }
+    ensures all_by_and { (truth : Condition → Bool) (cs : List Condition) → list_all (λ c. c.joined_by_and) cs ≡ true
+        → premise_by truth cs ≡ list_all truth cs }
+    ensures all_by_or { (truth : Condition → Bool) (c : Condition) (more : List Condition)
+        → list_all (λ c. not c.joined_by_and) more ≡ true → premise_by truth (c ∷ more) ≡ list_any truth (c ∷ more) }
+{}
+
+/// A pair is one of a list where it stands at some place of it (own).
+pub fn members()
+    ensures at_some_place { (pairs : List ActionAt) (p : ActionAt) → (IsIn pairs p ↔ Contains pairs p) }
+{}
+
+/// The listed pairs are those of each rule and each action of the branch that it lists: THEN where its premise holds, else
+/// ELSE (SWMM 5.2 manual, [CONTROLS]).
+pub fn listing()
+    ensures listed { (x : Rules) (s : State) (at : ActionAt) → (IsIn (listed x s) at ↔ IsListed x s at) }
+    ensures one_branch_each { (x : Rules) (s : State) → IsOneBranchEach (listed x s) }
+{}
+
+/// For each link at most one pair is settled, and one is exactly where a listed pair is on the link. `settled_on` gives it,
+/// and the order of the listed pairs does not matter (own).
+pub fn settling()
+    ensures at_most_one { (rules : List Rule) (pairs : List ActionAt) (link : ℕ) (p q : ActionAt) → IsOneBranchEach pairs
+        → IsSettled rules pairs link p → IsSettled rules pairs link q → p ≡ q }
+    ensures at_least_one { (rules : List Rule) (pairs : List ActionAt) (link : ℕ) (p : ActionAt) → IsIn pairs p
+        → IsTrue (is_on rules link p) → (q : ActionAt) × IsSettled rules pairs link q }
+    ensures only_where_listed { (rules : List Rule) (pairs : List ActionAt) (link : ℕ) (p : ActionAt) → IsSettled rules pairs link p
+        → IsIn pairs p × IsTrue (is_on rules link p) }
+    ensures given { (rules : List Rule) (pairs : List ActionAt) (link : ℕ) (p : ActionAt) → IsOneBranchEach pairs
+        → ((settled_on rules pairs link ≡ Some p) ↔ IsSettled rules pairs link p) }
+    ensures none_given { (rules : List Rule) (pairs : List ActionAt) (link : ℕ) (p : ActionAt)
+        → settled_on rules pairs link ≡ None → IsIn pairs p → is_on rules link p ≡ false }
+    ensures order_free { (rules : List Rule) (pairs others : List ActionAt) (link : ℕ) → IsOneBranchEach pairs
+        → ((q : ActionAt) → IsIn pairs q → IsIn others q) → ((q : ActionAt) → IsIn others q → IsIn pairs q)
+        → settled_on rules pairs link ≡ settled_on rules others link }
+{}
+
+/// The value of a table is at least 0, and that of a PID at least 0 and at most 1 unless the link is a pump (own).
+pub fn values()
+    ensures tables { (points : List Point) (x : Rational) → IfOk (line_value points x) (λ y. zero ≤ℚ y) }
+    ensures pids { (set : PidSet) (set_point x old minutes : Rational) (pump : Bool) (before : PidMemory)
+        → IfOk (pid_step set set_point x old minutes pump before) (λ stepped. IsPidValue pump stepped.value) }
+{}
+
+/// With a RULE_STEP of 0 every row is due, as long as moments do not fall. A row that is not due reads nothing, and it keeps
+/// the memories, as a stop does (SWMM 5.2 manual, [OPTIONS], RULE_STEP; stops: own).
+pub fn dues()
+    ensures every_row { (older : List State) (s : State) → ((t : State) → IsIn older t → t.moment ≤ℤ s.moment)
+        → is_due zero older s ≡ true }
+    ensures due { (x : Rules) (tables : TableSet) (older : List State) (s : State) → is_due x.rule_step older s ≡ true
+        → reading x tables older s ≡ read x tables s (memory x tables older) }
+    ensures not_due { (x : Rules) (tables : TableSet) (older : List State) (s : State) → is_due x.rule_step older s ≡ false
+        → reading x tables older s ≡ Ok [] }
+    ensures not_due_keeps { (x : Rules) (tables : TableSet) (older : List State) (s : State) (number : ℕ)
+        → is_due x.rule_step older s ≡ false → memory x tables (s ∷ older) number ≡ memory x tables older number }
+    ensures stop_keeps { (x : Rules) (tables : TableSet) (older : List State) (s : State) (number : ℕ) (stop : Stop)
+        → reading x tables older s ≡ Err stop → memory x tables (s ∷ older) number ≡ memory x tables older number }
+{}
+
+/// A link without a rate stands at its target after every row, and no link passes its target (own).
+pub fn movement()
+    ensures at_once { (rate gap y target : Rational) → has_rate rate ≡ false → moved rate gap y target ≡ target }
+    ensures up { (rate gap y target : Rational) → y ≤ℚ target → (y ≤ℚ moved rate gap y target) × (moved rate gap y target ≤ℚ target) }
+    ensures down { (rate gap y target : Rational) → target ≤ℚ y → (target ≤ℚ moved rate gap y target) × (moved rate gap y target ≤ℚ y) }
+    ensures at_target { (x : Rules) (tables : TableSet) (older : List State) (s : State) → FitsRules x s
+        → AllZip (λ rate at. has_rate rate ≡ false → at.setting ≡ at.target) x.rates (standings x tables older s) }
+    ensures on_the_way { (x : Rules) (tables : TableSet) (older : List State) (s : State) → length x.rates ≡ length x.tracked
+        → length s.links ≡ length x.tracked → AllZip IsOnTheWay s.links (standings x tables older s) }
+{}
