@@ -1,1 +1,3 @@
 pub mod WordLemmas
+pub mod FirstItem
+pub mod Standing

@@ -25,7 +25,7 @@ pub fn items(alloc: Global, line: &[u8]) -> Result<Vec<Span>, NoMemory>
 }
 
 /// What stands before the comment of a line.
-fn without_comment(line: &[u8]) -> &[u8]
+pub(crate) fn without_comment(line: &[u8]) -> &[u8]
     ensures { result.now ≡ before_comment line.now }
 {
     for (index, byte) in line.iter().enumerate() {
@@ -54,7 +54,7 @@ fn words_in(alloc: Global, text: &[u8]) -> Result<Vec<Span>, NoMemory>
 }
 
 /// Whether a byte stands between items: a space or a tab.
-fn is_blank_byte(byte: u8) -> bool
+pub(crate) fn is_blank_byte(byte: u8) -> bool
     ensures { result ≡ is_blank byte }
 {
     byte == b' ' || byte == b'\t'

@@ -1,5 +1,5 @@
-//! One line, cut.
-use crate::{Span, items};
+//! Lines, cut and kept.
+use crate::{LineText, Lines, SectionKind, Sections, Span, TextFault, items, tokens};
 use std::test::Fail;
 
 #[test]
@@ -11,5 +11,42 @@ fn cuts_a_line(rt: HostRuntime) -> Result<(), Fail> {
         Span { start: 12, end: 15 },
     ];
     assert_eq!(rt; places.as_slice(), expected.as_slice());
+    Ok(())
+}
+
+#[test]
+fn tells_a_control_byte(rt: HostRuntime) -> Result<(), Fail> {
+    let told = tokens(rt.alloc(), b"P1\x01 N1");
+    assert!(rt; matches!(told, Err(TextFault::BadText(2))));
+    let told = tokens(rt.alloc(), b"P1;\x01");
+    assert!(rt; matches!(told, Ok(_)));
+    Ok(())
+}
+
+#[test]
+fn keeps_the_lines_of_sections(rt: HostRuntime) -> Result<(), Fail> {
+    let mut sections = Sections::new(rt.alloc());
+    sections.push(rt.alloc(), Some(b"[junctions]"))?;
+    sections.push(rt.alloc(), None)?;
+    sections.push(rt.alloc(), Some(b"; none"))?;
+    sections.push(rt.alloc(), Some(b"N1 5"))?;
+    sections.push(rt.alloc(), Some(b"[TITLE]"))?;
+    sections.push(rt.alloc(), Some(b"N2"))?;
+    let lines = sections.lines(SectionKind::Junctions);
+    assert_eq!(rt; lines.len(), 1);
+    assert_eq!(rt; lines[0].number, 4);
+    assert_eq!(rt; lines[0].bytes.as_slice(), b"N1 5".as_slice());
+    assert_eq!(rt; sections.first_long(), Some(2));
+    Ok(())
+}
+
+#[test]
+fn lists_lines(rt: HostRuntime) -> Result<(), Fail> {
+    let mut lines = Lines::new(rt.alloc());
+    lines.push(rt.alloc(), Some(b"a"))?;
+    lines.push(rt.alloc(), None)?;
+    assert!(rt; matches!(lines.get(0), Some(LineText::Text(_))));
+    assert!(rt; matches!(lines.get(1), Some(LineText::Long)));
+    assert!(rt; matches!(lines.get(2), None));
     Ok(())
 }

@@ -1,0 +1,10 @@
+//! Why a line gives no tokens.
+
+/// Why a line gives no tokens (own).
+#[derive(Clone, Copy, Debug, PartialEq, Eq)]
+pub enum TextFault {
+    /// A control byte other than tab stands before the comment, first at this place, from 0.
+    BadText(usize),
+    /// There was no memory for the tokens.
+    NoMemory,
+}
