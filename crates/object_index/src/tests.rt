@@ -1,0 +1,35 @@
+//! An index with names that differ in case alone.
+use crate::{ObjectIndex, Unresolved};
+use rule_types::{AddFault, ObjectKind, ObjectNo, ObjectWord, Space};
+use std::test::Fail;
+
+#[test]
+fn finds_the_same_bytes_first(rt: HostRuntime) -> Result<(), Fail> {
+    let mut index = ObjectIndex::new(rt.alloc());
+    index.add(rt.alloc(), ObjectKind::Pump, b"P1")?;
+    index.add(rt.alloc(), ObjectKind::Weir, b"p1")?;
+    let again = index.add(rt.alloc(), ObjectKind::Outlet, b"p1");
+    assert_eq!(rt; again, Err(AddFault::Duplicate));
+    let lower = ObjectNo {
+        space: Space::Links,
+        index: 1,
+    };
+    let found = index.resolve(rt.alloc(), ObjectWord::Weir, b"p1");
+    assert_eq!(rt; found, Ok(lower));
+    assert_eq!(rt; index.name(lower), Some(b"p1".as_slice()));
+    Ok(())
+}
+
+#[test]
+fn finds_without_case(rt: HostRuntime) -> Result<(), Fail> {
+    let mut index = ObjectIndex::new(rt.alloc());
+    index.add(rt.alloc(), ObjectKind::Conduit, b"Pa")?;
+    let only = index.resolve(rt.alloc(), ObjectWord::Pump, b"PA");
+    assert_eq!(rt; only, Err(Unresolved::WrongKind));
+    index.add(rt.alloc(), ObjectKind::Conduit, b"pA")?;
+    let several = index.resolve(rt.alloc(), ObjectWord::Link, b"PA");
+    assert_eq!(rt; several, Err(Unresolved::Ambiguous));
+    let none = index.resolve(rt.alloc(), ObjectWord::Node, b"Pa");
+    assert_eq!(rt; none, Err(Unresolved::Unknown));
+    Ok(())
+}
