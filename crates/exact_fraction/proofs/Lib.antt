@@ -1,4 +1,5 @@
 pub mod Answered
+pub mod Cited
 pub mod Held
 pub mod Lines
 pub mod Lowest

@@ -1,5 +1,5 @@
 -- Greatest common divisors, and ratios in lowest terms.
-use Rattle.std.proofs.Common.{◌≡◌, ℕ, zero, suc, ◌+◌, ◌*◌, ◌/◌, ◌%◌, ◌<◌, ℤ, pos, negsuc, ◌*ℤ◌, neg_ℤ, refl, sym, ap, ◌∙◌, subst, arith, mod-lt, zero-mul, one-mul, mod-eq_of_lt, div-add-mod', mul-lt-mul_of_pos_right, mul-one, ap₂}
+use Rattle.std.proofs.Common.{◌≡◌, ℕ, zero, suc, ◌+◌, ◌*◌, ◌/◌, ◌%◌, ◌<◌, ◌≤◌, ℤ, pos, negsuc, ◌*ℤ◌, neg_ℤ, refl, sym, ap, ◌∙◌, subst, arith, mod-lt, zero-mul, one-mul, mod-eq_of_lt, div-add-mod', mul-lt-mul_of_pos_right, mul-one, ap₂, div-le_self}
 use Rattle.std.specs.Prelude.{unsigned_abs, int_div}
 use Rattle.std.proofs.Math.Nat.{dvd-mul_right, dvd-mul_left, one-dvd, pos_of_dvd_of_pos, div-mul_cancel, suc-pred-eq_of_pos, mul-dvd-mul_right, dvd_of_mul-dvd-mul_right, eq_of_mul-eq-mul_right, mul-add-mod_self_right}
 use Rattle.std.proofs.lemmas.Nat.Gcd.{dvd_antisymm, IsGcd-from_zero, IsGcd-from_mod, same_from_IsGcd}
@@ -96,6 +96,16 @@ IsLowest-ratio n d p =
     let q = gcd_pos (unsigned_abs n) d p in
     let h = IsGcd-gcd (unsigned_abs n) d in
     record { coprime = rw (num-cancelled n d g q, den-cancelled n d g p q h.1, size-int_div n g) (coprime_left (unsigned_abs n) d g q h) }
+
+-- a ratio has no greater numerator and denominator than it is given
+pub ratio_no_greater : (n : ℤ) (d : ℕ) → 0 < d → (unsigned_abs (ratio n d).num ≤ unsigned_abs n) × (den (ratio n d) ≤ d)
+unfolding ratio
+ratio_no_greater n d p =
+    let g = gcd (unsigned_abs n) d in
+    let q = gcd_pos (unsigned_abs n) d p in
+    let num = div-le_self (unsigned_abs n) g in
+    let below = div-le_self d g in
+    (rw (num-cancelled n d g q, size-int_div n g) num, rw (den-cancelled n d g p q (IsGcd-gcd (unsigned_abs n) d).1) below)
 
 value_of_parts : (q n : ℤ) (k g d : ℕ) → q *ℤ pos g ≡ n → k * g ≡ d → q *ℤ pos d ≡ n *ℤ pos k
 value_of_parts q n k g d e f =

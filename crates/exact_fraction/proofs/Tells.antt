@@ -1,4 +1,4 @@
--- Sets for `using(..)` in the crates above: what each test of the order, and each checked answer, tells.
+-- What each test of the order, and each checked answer, tells.
 use Rattle.std.proofs.Common.{◌≡◌, ◌⊎◌, Bool, true, false, cond, Some, None, Result, Ok, Err, refl, sym, ◌∙◌, inl, inr}
 use Rattle.std.proofs.lemmas.Bool.{false≢true}
 use Rattle.exact_fraction.specs.Number.{Rational, fits}
@@ -7,7 +7,7 @@ use Rattle.exact_fraction.specs.Operations.{quotient_of}
 use Rattle.exact_fraction.specs.Checked.{fitting, checked, is_zero, checked_quotient}
 use Rattle.exact_fraction.specs.declared.error.Overflow.{Overflow}
 use Rattle.exact_fraction.specs.declared.error.DivFault.TheVariants as fault
-use Rattle.exact_fraction.proofs.Orders.{≤ℚ_refl, ≤ℚ_trans, <ℚ-≤ℚ_trans, ≤ℚ-<ℚ_trans, <ℚ_trans, <ℚ-at_most, ≤ℚ_apart, ≤ℚ_antisymm, =ℚ-at_most, =ℚ-at_least, less_true, less_false, same_true, true_same}
+use Rattle.exact_fraction.proofs.Orders.{less_true, less_false, same_true, true_same}
 use Rattle.exact_fraction.proofs.Answered.{eq_compares, ne_compares, lt_compares, le_compares, gt_compares, ge_compares}
 
 pub less_tells : (p q : Rational) → ((less p q ≡ true) × (p <ℚ q)) ⊎ ((less p q ≡ false) × (q ≤ℚ p))
@@ -51,8 +51,3 @@ quotient_tells p q = by_tests (is_zero q) (fits (quotient_of p q))
 
 -- the tests, and the order that they test
 pub ruleset order_tests = (less_tells, same_tells, eq_compares, ne_compares, lt_compares, le_compares, gt_compares, ge_compares)
-
-pub ruleset order_steps = (order_tests, ≤ℚ_refl, ≤ℚ_trans, <ℚ-≤ℚ_trans, ≤ℚ-<ℚ_trans, <ℚ_trans, <ℚ-at_most, ≤ℚ_apart, ≤ℚ_antisymm, =ℚ-at_most, =ℚ-at_least)
-
--- what a checked answer is
-pub ruleset checks = (fitting_tells, checked_tells, quotient_tells)

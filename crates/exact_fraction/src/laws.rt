@@ -1,12 +1,12 @@
 //! Laws of the numbers. Each function here does nothing: its contract states laws over all fractions, in lowest terms or
 //! not, for the proofs of the crates above.
-ghost use Rattle.std.specs.Prelude.{◌≡◌, ℕ, ◌<◌, ◌⊎◌, ◌↔◌, IsTrue, ℤ, pos, negsuc, ◌*ℤ◌};
-ghost use Rattle.exact_fraction.specs.Checked.{made, checked, is_zero, checked_quotient};
+ghost use Rattle.std.specs.Prelude.{◌≡◌, ℕ, ◌<◌, ◌≤◌, true, false, unsigned_abs, ◌⊎◌, ◌↔◌, IsTrue, ℤ, pos, negsuc, ◌*ℤ◌};
+ghost use Rattle.exact_fraction.specs.Checked.{made, fitting, checked, is_zero, checked_quotient};
 ghost use Rattle.exact_fraction.specs.Moments.{moment_at};
 ghost use Rattle.exact_fraction.specs.declared.error.DivFault.TheVariants as fault;
 ghost use Rattle.std.specs.Int.{IsGcd};
 ghost use Rattle.std.specs.Ordering.{MatchOrdering};
-ghost use Rattle.exact_fraction.specs.Number.{Rational, den, gcd, ratio, whole, zero, one, IsLowest};
+ghost use Rattle.exact_fraction.specs.Number.{Rational, den, fits, gcd, ratio, whole, zero, one, IsLowest};
 ghost use Rattle.exact_fraction.specs.Order.{◌≤ℚ◌, ◌<ℚ◌, ◌=ℚ◌, compares, less, same, lesser_of, greater_of, IsBetween};
 ghost use Rattle.exact_fraction.specs.Operations.{sum_of, difference_of, product_of, quotient_of, negation_of, round9_of, nearest_whole, IsNearest, middle_of, line_at};
 ghost use Rattle.exact_fraction.specs.Relations.{relates};
@@ -14,9 +14,13 @@ ghost use Rattle.exact_fraction.specs.declared.relation.Relation.TheVariants.{Eq
 
 /// A ratio, and so the result of each operation, is in lowest terms and has the value of its two numbers (own).
 pub fn lowest_terms()
+    ensures positive { (q : Rational) → 0 < den q }
     ensures greatest { (a b : ℕ) → IsGcd a b (gcd a b) }
     ensures lowest { (n : ℤ) (d : ℕ) → 0 < d → IsLowest (ratio n d) }
     ensures value { (n : ℤ) (d : ℕ) → 0 < d → (ratio n d).num *ℤ pos d ≡ n *ℤ pos (den (ratio n d)) }
+    ensures no_greater { (n : ℤ) (d : ℕ) → 0 < d
+        → (unsigned_abs (ratio n d).num ≤ unsigned_abs n) × (den (ratio n d) ≤ d) }
+    ensures of_same { (n m : ℤ) (d e : ℕ) → 0 < d → 0 < e → n *ℤ pos e ≡ m *ℤ pos d → ratio n d ≡ ratio m e }
     ensures unique { (p q : Rational) → IsLowest p → IsLowest q → p =ℚ q → p ≡ q }
     ensures itself { (q : Rational) → IsLowest q → ratio q.num (den q) ≡ q }
     ensures of_whole { (n : ℤ) → IsLowest (whole n) }
@@ -35,6 +39,7 @@ pub fn order()
     ensures same_is_at_most { (p q : Rational) → p =ℚ q → (p ≤ℚ q) × (q ≤ℚ p) }
     ensures below_is_at_most { (p q : Rational) → p <ℚ q → p ≤ℚ q }
     ensures transitive { (p q r : Rational) → p ≤ℚ q → q ≤ℚ r → p ≤ℚ r }
+    ensures below_transitive { (p q r : Rational) → p <ℚ q → q <ℚ r → p <ℚ r }
     ensures below_at_most { (p q r : Rational) → p <ℚ q → q ≤ℚ r → p <ℚ r }
     ensures at_most_below { (p q r : Rational) → p ≤ℚ q → q <ℚ r → p <ℚ r }
     ensures lesser { (p q : Rational) → (lesser_of p q ≤ℚ p) × (lesser_of p q ≤ℚ q) }
@@ -45,6 +50,7 @@ pub fn order()
 /// Each test agrees with the order (own).
 pub fn tests()
     ensures less { (p q : Rational) → IsTrue (less p q) ↔ (p <ℚ q) }
+    ensures not_less { (p q : Rational) → less p q ≡ false ↔ (q ≤ℚ p) }
     ensures same { (p q : Rational) → IsTrue (same p q) ↔ (p =ℚ q) }
     ensures compares { (p q : Rational) → MatchOrdering (compares p q) (p <ℚ q) (p =ℚ q) (q <ℚ p) }
     ensures is_zero { (q : Rational) → IsTrue (is_zero q) ↔ (q =ℚ zero) }
@@ -54,6 +60,17 @@ pub fn tests()
     ensures at_most { (p q : Rational) → IsTrue (relates Le p q) ↔ (p ≤ℚ q) }
     ensures above { (p q : Rational) → IsTrue (relates Gt p q) ↔ (q <ℚ p) }
     ensures at_least { (p q : Rational) → IsTrue (relates Ge p q) ↔ (q ≤ℚ p) }
+{}
+
+/// What a test and a checked answer tell, one way or the other (own).
+pub fn tells()
+    ensures less { (p q : Rational) → ((less p q ≡ true) × (p <ℚ q)) ⊎ ((less p q ≡ false) × (q ≤ℚ p)) }
+    ensures same { (p q : Rational) → ((same p q ≡ true) × (p =ℚ q)) ⊎ ((same p q ≡ false) × ¬ (p =ℚ q)) }
+    ensures fitting { (q : Rational) → ((fits q ≡ true) × (fitting q ≡ Some q)) ⊎ ((fits q ≡ false) × (fitting q ≡ None)) }
+    ensures checked { (q : Rational) → ((fits q ≡ true) × (checked q ≡ Ok q)) ⊎ ((fits q ≡ false) × (checked q ≡ Err (record {}))) }
+    ensures quotient { (p q : Rational) → ((is_zero q ≡ true) × (checked_quotient p q ≡ Err fault.Zero))
+        ⊎ ((is_zero q ≡ false) × (fits (quotient_of p q) ≡ true) × (checked_quotient p q ≡ Ok (quotient_of p q)))
+        ⊎ ((is_zero q ≡ false) × (fits (quotient_of p q) ≡ false) × (checked_quotient p q ≡ Err fault.Overflow)) }
 {}
 
 /// Sums and differences keep the order of what is added to, and turn that of what is taken away; a sign turns the order

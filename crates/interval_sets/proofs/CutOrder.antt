@@ -4,7 +4,7 @@ use Rattle.std.specs.Prelude.{slice_get}
 use Rattle.std.proofs.lemmas.Option.{slice_get_within, slice_get-get_or}
 use Rattle.exact_fraction.specs.Number.{Rational}
 use Rattle.exact_fraction.specs.Order.{◌<ℚ◌}
-use Rattle.exact_fraction.proofs.Orders.{<ℚ_trans}
+use Rattle.exact_fraction.proofs.Cited.{order-below_transitive}
 use Rattle.interval_sets.specs.Cuts.{IsRising}
 
 rising_by : (cuts : List Rational) (d : Rational) → IsRising cuts → (n i j : ℕ) → j ≡ i + 1 + n → j < length cuts → get_or cuts i d <ℚ get_or cuts j d
@@ -16,7 +16,7 @@ rising_by cuts d rises (suc n) i j e h =
     let mid = i + 1 + n in
     let P : ℕ → Type 0 = λ m. get_or cuts mid d <ℚ get_or cuts m d in
     let at : mid + 1 ≡ j = omega arith in
-    <ℚ_trans (get_or cuts i d) (get_or cuts mid d) (get_or cuts j d) (rising_by cuts d rises n i mid refl (omega arith)) (subst P at (rises mid d (omega arith)))
+    order-below_transitive (get_or cuts i d) (get_or cuts mid d) (get_or cuts j d) (rising_by cuts d rises n i mid refl (omega arith)) (subst P at (rises mid d (omega arith)))
 
 got : (cuts : List Rational) (d : Rational) (i : ℕ) (p : Rational) → slice_get cuts i ≡ Some p → get_or cuts i d ≡ p
 got cuts d i p is =

@@ -1,49 +1,39 @@
 -- The order of the edges, and what it says of the fractions that are past them.
 use Rattle.std.proofs.Common.{◌≡◌, Bool, true, false, not, refl, sym, ap, ◌∙◌, pos, negsuc}
-use Rattle.std.proofs.lemmas.Bool.{false≢true, true≢false}
+use Rattle.std.proofs.lemmas.Bool.{false≢true, true≢false, not-true, not-false, not_from_false}
 use Rattle.exact_fraction.specs.Number.{Rational, IsNumber, den, whole}
 use Rattle.exact_fraction.specs.Number.{zero as nought}
 use Rattle.exact_fraction.specs.Order.{◌≤ℚ◌, ◌<ℚ◌, less}
 use Rattle.exact_fraction.specs.Operations.{sum_of, middle_of}
-use Rattle.exact_fraction.proofs.Orders.{≤ℚ_refl, ≤ℚ_trans, <ℚ-≤ℚ_trans, ≤ℚ-<ℚ_trans, <ℚ_trans, <ℚ-at_most, ≤ℚ_antisymm, =ℚ-at_most, =ℚ-at_least, less_true, less_false, true_less, false_less, not_true, not_false}
-use Rattle.exact_fraction.proofs.Sums.{dense, sum_below, sum_commutes}
-use Rattle.exact_fraction.proofs.Lines.{sum_zero}
-use Rattle.exact_fraction.proofs.Lowest.{unique}
+use Rattle.exact_fraction.proofs.Cited.{order-reflexive, order-transitive, order-below_at_most, order-at_most_below, order-below_transitive, order-below_is_at_most, order-antisymmetric, order-same_is_at_most, order-dense, tests-less, tests-not_less, sums-below, sums-commutes, sums-with_zero, lowest_terms-unique}
 use Rattle.interval_sets.specs.declared.edge.Edge.{Edge}
 use Rattle.interval_sets.specs.declared.edge.Edge.TheVariants.{BelowAll, Before, After, AboveAll}
 use Rattle.interval_sets.specs.Edges.{is_past, stands_before, IsHeldEdge}
 
 -- ---- the tests of two numbers
 pub at_most_true : (p q : Rational) → not (less q p) ≡ true → p ≤ℚ q
-at_most_true p q e = less_false q p (not_true (less q p) e)
+at_most_true p q e = (tests-not_less q p).0 (not-true (less q p) e)
 
 pub true_at_most : (p q : Rational) → p ≤ℚ q → not (less q p) ≡ true
-true_at_most p q h = not_false (less q p) (false_less q p h)
+true_at_most p q h = not_from_false (less q p) ((tests-not_less q p).1 h)
 
 pub lt_le : (p q r : Rational) → less p q ≡ true → not (less r q) ≡ true → less p r ≡ true
-lt_le p q r h k = true_less p r (<ℚ-≤ℚ_trans p q r (less_true p q h) (at_most_true q r k))
+lt_le p q r h k = (tests-less p r).1 (order-below_at_most p q r ((tests-less p q).0 h) (at_most_true q r k))
 
 pub lt_lt : (p q r : Rational) → less p q ≡ true → less q r ≡ true → less p r ≡ true
-lt_lt p q r h k = true_less p r (<ℚ_trans p q r (less_true p q h) (less_true q r k))
+lt_lt p q r h k = (tests-less p r).1 (order-below_transitive p q r ((tests-less p q).0 h) ((tests-less q r).0 k))
 
 pub le_lt : (p q r : Rational) → not (less q p) ≡ true → less q r ≡ true → less p r ≡ true
-le_lt p q r h k = true_less p r (≤ℚ-<ℚ_trans p q r (at_most_true p q h) (less_true q r k))
+le_lt p q r h k = (tests-less p r).1 (order-at_most_below p q r (at_most_true p q h) ((tests-less q r).0 k))
 
 pub le_le : (p q r : Rational) → not (less q p) ≡ true → not (less r q) ≡ true → not (less r p) ≡ true
-le_le p q r h k = true_at_most p r (≤ℚ_trans p q r (at_most_true p q h) (at_most_true q r k))
+le_le p q r h k = true_at_most p r (order-transitive p q r (at_most_true p q h) (at_most_true q r k))
 
 pub lt_weak : (p q : Rational) → less p q ≡ true → not (less q p) ≡ true
-lt_weak p q h = true_at_most p q (<ℚ-at_most p q (less_true p q h))
+lt_weak p q h = true_at_most p q (order-below_is_at_most p q ((tests-less p q).0 h))
 
 pub le_refl : (p : Rational) → not (less p p) ≡ true
-le_refl p = true_at_most p p (≤ℚ_refl p)
-
-not_not : (b : Bool) → not b ≡ false → b ≡ true
-not_not true e = refl
-not_not false e = sym e
-
-false_from : (b : Bool) → not b ≡ true → b ≡ false
-false_from = not_true
+le_refl p = true_at_most p p (order-reflexive p)
 
 -- ---- an edge that stands before one that a fraction is past is passed too
 pub past_before : (q : Rational) (e f : Edge) → stands_before e f ≡ true → is_past q f ≡ true → is_past q e ≡ true
@@ -67,11 +57,11 @@ before_from_past q e BelowAll h k = cc
 before_from_past q BelowAll (Before r) h k = refl
 before_from_past q BelowAll (After r) h k = refl
 before_from_past q BelowAll AboveAll h k = refl
-before_from_past q (Before p) (Before r) h k = le_lt p q r h (not_not (less q r) k)
-before_from_past q (Before p) (After r) h k = le_le p q r h (not_false (less r q) k)
+before_from_past q (Before p) (Before r) h k = le_lt p q r h (not-false (less q r) k)
+before_from_past q (Before p) (After r) h k = le_le p q r h (not_from_false (less r q) k)
 before_from_past q (Before p) AboveAll h k = refl
-before_from_past q (After p) (Before r) h k = lt_lt p q r h (not_not (less q r) k)
-before_from_past q (After p) (After r) h k = lt_le p q r h (not_false (less r q) k)
+before_from_past q (After p) (Before r) h k = lt_lt p q r h (not-false (less q r) k)
+before_from_past q (After p) (After r) h k = lt_le p q r h (not_from_false (less r q) k)
 before_from_past q (After p) AboveAll h k = refl
 before_from_past q AboveAll (Before r) h k = cc
 before_from_past q AboveAll (After r) h k = cc
@@ -88,15 +78,15 @@ up = refl
 
 pub one_less : (p : Rational) → less (sum_of (whole (negsuc 0)) p) p ≡ true
 one_less p =
-    let moved : sum_of (whole (negsuc 0)) p <ℚ sum_of nought p = sum_below (whole (negsuc 0)) nought p (less_true (whole (negsuc 0)) nought down) in
-    let at : sum_of nought p ≤ℚ p = rw (sum_commutes nought p) (=ℚ-at_most (sum_of p nought) p (sum_zero p)) in
-    true_less (sum_of (whole (negsuc 0)) p) p (<ℚ-≤ℚ_trans (sum_of (whole (negsuc 0)) p) (sum_of nought p) p moved at)
+    let moved : sum_of (whole (negsuc 0)) p <ℚ sum_of nought p = sums-below (whole (negsuc 0)) nought p ((tests-less (whole (negsuc 0)) nought).0 down) in
+    let at : sum_of nought p ≤ℚ p = rw (sums-commutes nought p) ((order-same_is_at_most (sum_of p nought) p (sums-with_zero p)).0) in
+    (tests-less (sum_of (whole (negsuc 0)) p) p).1 (order-below_at_most (sum_of (whole (negsuc 0)) p) (sum_of nought p) p moved at)
 
 pub one_more : (p : Rational) → less p (sum_of (whole (pos 1)) p) ≡ true
 one_more p =
-    let moved : sum_of nought p <ℚ sum_of (whole (pos 1)) p = sum_below nought (whole (pos 1)) p (less_true nought (whole (pos 1)) up) in
-    let at : p ≤ℚ sum_of nought p = rw (sum_commutes nought p) (=ℚ-at_least (sum_of p nought) p (sum_zero p)) in
-    true_less p (sum_of (whole (pos 1)) p) (≤ℚ-<ℚ_trans p (sum_of nought p) (sum_of (whole (pos 1)) p) at moved)
+    let moved : sum_of nought p <ℚ sum_of (whole (pos 1)) p = sums-below nought (whole (pos 1)) p ((tests-less nought (whole (pos 1))).0 up) in
+    let at : p ≤ℚ sum_of nought p = rw (sums-commutes nought p) ((order-same_is_at_most (sum_of p nought) p (sums-with_zero p)).1) in
+    (tests-less p (sum_of (whole (pos 1)) p)).1 (order-at_most_below p (sum_of nought p) (sum_of (whole (pos 1)) p) at moved)
 
 -- ---- between an edge and one that it stands before lies a fraction
 pub record Room (e f : Edge) : Type 0 where
@@ -113,15 +103,15 @@ room e BelowAll h = absurd (never e h)
     never (After p) h = cc
     never AboveAll h = cc
 room BelowAll (Before r) h = record { at = sum_of (whole (negsuc 0)) r; past = refl; short = ap not (one_less r) }
-room BelowAll (After r) h = record { at = r; past = refl; short = false_from (less r r) (le_refl r) }
+room BelowAll (After r) h = record { at = r; past = refl; short = not-true (less r r) (le_refl r) }
 room BelowAll AboveAll h = record { at = nought; past = refl; short = refl }
 room (Before p) (Before r) h = record { at = p; past = le_refl p; short = ap not h }
-room (Before p) (After r) h = record { at = p; past = le_refl p; short = false_from (less r p) h }
+room (Before p) (After r) h = record { at = p; past = le_refl p; short = not-true (less r p) h }
 room (Before p) AboveAll h = record { at = p; past = le_refl p; short = refl }
 room (After p) (Before r) h =
-    let between = dense p r (less_true p r h) in
-    record { at = middle_of p r; past = true_less p (middle_of p r) between.0; short = ap not (true_less (middle_of p r) r between.1) }
-room (After p) (After r) h = record { at = r; past = h; short = false_from (less r r) (le_refl r) }
+    let between = order-dense p r ((tests-less p r).0 h) in
+    record { at = middle_of p r; past = (tests-less p (middle_of p r)).1 between.0; short = ap not ((tests-less (middle_of p r) r).1 between.1) }
+room (After p) (After r) h = record { at = r; past = h; short = not-true (less r r) (le_refl r) }
 room (After p) AboveAll h = record { at = sum_of (whole (pos 1)) p; past = one_more p; short = refl }
 room AboveAll (Before r) h = cc
 room AboveAll (After r) h = cc
@@ -138,10 +128,10 @@ before_trans d e f h k =
     by_test false here p = before_from_past here.at d f here.past p
 
 same_number : (p r : Rational) → IsNumber p → IsNumber r → less p r ≡ false → less r p ≡ false → p ≡ r
-same_number p r a b h k = unique p r a.lowest b.lowest (≤ℚ_antisymm p r (less_false r p k) (less_false p r h))
+same_number p r a b h k = lowest_terms-unique p r a.lowest b.lowest (order-antisymmetric p r ((tests-not_less r p).0 k) ((tests-not_less p r).0 h))
 
 apart : (p r : Rational) → not (less r p) ≡ false → less r p ≡ false → ⊥
-apart p r h k = false≢true (sym k ∙ not_not (less r p) h)
+apart p r h k = false≢true (sym k ∙ not-false (less r p) h)
 
 -- ---- two edges of which neither stands before the other are one
 pub same_edge : (e f : Edge) → IsHeldEdge e → IsHeldEdge f → stands_before e f ≡ false → stands_before f e ≡ false → e ≡ f

@@ -1,7 +1,7 @@
 -- What the tests of ends tell, and that cuts which rise from one to the next rise throughout.
-use Rattle.std.proofs.Common.{◌≡◌, ◌↔◌, Bool, true, false, not, refl, sym, ap, ◌∙◌}
+use Rattle.std.proofs.Common.{◌≡◌, ◌↔◌, false, not, sym, ap, ◌∙◌}
 use Rattle.std.specs.Prelude.{IsTrue}
-use Rattle.std.proofs.lemmas.Bool.{and_parts, and_from}
+use Rattle.std.proofs.lemmas.Bool.{and_parts, and_from, not-true, not-false}
 use Rattle.exact_fraction.specs.Number.{Rational}
 use Rattle.rule_types.specs.declared.interval.Bound.{Bound}
 use Rattle.rule_types.specs.declared.interval.Interval.{Interval}
@@ -9,14 +9,6 @@ use Rattle.interval_sets.specs.Intervals.{is_above, is_below, lies_in, has_membe
 use Rattle.interval_sets.specs.Edges.{is_past, low_edge, high_edge}
 use Rattle.interval_sets.proofs.EdgeOrder.{room, before_from_past}
 use Rattle.interval_sets.proofs.PieceEdges.{above_past, below_past, member_before, gap_before}
-
-not_true : (b : Bool) → not b ≡ true → b ≡ false
-not_true true e = sym e
-not_true false e = refl
-
-not_false : (b : Bool) → not b ≡ false → b ≡ true
-not_false true e = refl
-not_false false e = sym e
 
 pub member_exists : (piece : Interval) → IsTrue (has_member piece.low piece.high) ↔ ((q : Rational) × IsTrue (lies_in piece q))
 member_exists piece = (
@@ -26,7 +18,7 @@ member_exists piece = (
   λ (q, h).
       let parts = and_parts (is_above piece.low q) (is_below piece.high q) h in
       member_before piece.low piece.high
-      ∙ before_from_past q (low_edge piece.low) (high_edge piece.high) (sym (above_past piece.low q) ∙ parts.0) (not_true (is_past q (high_edge piece.high)) (sym (below_past piece.high q) ∙ parts.1)),
+      ∙ before_from_past q (low_edge piece.low) (high_edge piece.high) (sym (above_past piece.low q) ∙ parts.0) (not-true (is_past q (high_edge piece.high)) (sym (below_past piece.high q) ∙ parts.1)),
 )
 
 pub gap_exists : (high low : Bound) → IsTrue (has_gap high low) ↔ ((q : Rational) × (is_below high q ≡ false) × (is_above low q ≡ false))
@@ -36,5 +28,5 @@ gap_exists high low = (
       (r.at, below_past high r.at ∙ ap not r.past, above_past low r.at ∙ r.short),
   λ (q, h, k).
       gap_before high low
-      ∙ before_from_past q (high_edge high) (low_edge low) (not_false (is_past q (high_edge high)) (sym (below_past high q) ∙ h)) (sym (above_past low q) ∙ k),
+      ∙ before_from_past q (high_edge high) (low_edge low) (not-false (is_past q (high_edge high)) (sym (below_past high q) ∙ h)) (sym (above_past low q) ∙ k),
 )

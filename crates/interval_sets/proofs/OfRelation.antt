@@ -7,7 +7,7 @@ use Rattle.exact_fraction.specs.Order.{less, same}
 use Rattle.exact_fraction.specs.Relations.{relates}
 use Rattle.exact_fraction.specs.declared.relation.Relation.{Relation}
 use Rattle.exact_fraction.specs.declared.relation.Relation.TheVariants.{Eq, Ne}
-use Rattle.exact_fraction.proofs.Orders.{less_false, same_true, true_same, ≤ℚ_antisymm, false_less, =ℚ-at_least, =ℚ-at_most}
+use Rattle.exact_fraction.proofs.Cited.{tests-same, tests-not_less, order-antisymmetric, order-same_is_at_most}
 use Rattle.rule_types.specs.declared.interval.Bound.TheVariants as end
 use Rattle.rule_types.specs.declared.interval.Interval.{Interval}
 use Rattle.interval_sets.specs.Sets.{members, IsNormal}
@@ -21,14 +21,14 @@ not_same_below : (q p : Rational) → less q p ≡ true → same q p ≡ false
 not_same_below q p h = by_test (same q p) refl
   where
     by_test : (t : Bool) → same q p ≡ t → t ≡ false
-    by_test true e = absurd (false≢true (sym (false_less q p (=ℚ-at_least q p (same_true q p e))) ∙ h))
+    by_test true e = absurd (false≢true (sym ((tests-not_less q p).1 ((order-same_is_at_most q p ((tests-same q p).0 e)).1)) ∙ h))
     by_test false e = refl
 
 not_same_above : (q p : Rational) → less p q ≡ true → same q p ≡ false
 not_same_above q p h = by_test (same q p) refl
   where
     by_test : (t : Bool) → same q p ≡ t → t ≡ false
-    by_test true e = absurd (false≢true (sym (false_less p q (=ℚ-at_most q p (same_true q p e))) ∙ h))
+    by_test true e = absurd (false≢true (sym ((tests-not_less p q).1 ((order-same_is_at_most q p ((tests-same q p).0 e)).0)) ∙ h))
     by_test false e = refl
 
 same_tests : (q p : Rational) → same q p ≡ (not (less q p) && not (less p q))
@@ -37,7 +37,7 @@ same_tests q p = by_tests (less q p) (less p q) refl refl
     by_tests : (s t : Bool) → less q p ≡ s → less p q ≡ t → same q p ≡ (not s && not t)
     by_tests true t h k = not_same_below q p h
     by_tests false true h k = not_same_above q p k
-    by_tests false false h k = true_same q p (≤ℚ_antisymm q p (less_false p q k) (less_false q p h))
+    by_tests false false h k = (tests-same q p).1 (order-antisymmetric q p ((tests-not_less p q).0 k) ((tests-not_less q p).0 h))
 
 in_point : (a b : Bool) → (not a && not b || false) ≡ (not a && not b)
 in_point true b = refl

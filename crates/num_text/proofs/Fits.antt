@@ -1,45 +1,28 @@
 -- Ratios that fit, and ratios that do not.
-use Rattle.std.proofs.Common.{◌≡◌, ℕ, zero, suc, ◌*◌, ◌^◌, ◌<◌, ◌≤◌, true, false, ℤ, pos, refl, sym, ap, ◌∙◌, arith, div-le_self, le_of_mul-le-mul_right, le-mul_of_pos_right, Some}
+use Rattle.std.proofs.Common.{◌≡◌, ℕ, zero, suc, ◌*◌, ◌^◌, ◌<◌, ◌≤◌, true, false, ℤ, pos, refl, sym, ap, ◌∙◌, arith, le_of_mul-le-mul_right, le-mul_of_pos_right, Some}
 use Rattle.std.specs.Prelude.{unsigned_abs}
 use Rattle.std.proofs.lemmas.Bool.Decides.{nat_tests}
 use Rattle.std.proofs.lemmas.Int.{unsigned_abs-mul}
-use Rattle.exact_fraction.specs.Number.{den, gcd, ratio, fits}
+use Rattle.exact_fraction.specs.Number.{den, ratio, fits}
 use Rattle.exact_fraction.specs.Checked.{made, fitting}
-use Rattle.exact_fraction.proofs.Lowest.{IsGcd-gcd, gcd_pos, num-cancelled, den-cancelled, size-int_div, ratio_value, den_pos}
+use Rattle.exact_fraction.proofs.Cited.{lowest_terms-positive, lowest_terms-value, lowest_terms-no_greater}
 
--- a ratio has no greater numerator and denominator than it is given
-pub ratio-num-le : (n : ℤ) (d : ℕ) → 0 < d → unsigned_abs (ratio n d).num ≤ unsigned_abs n
-unfolding ratio
-ratio-num-le n d p =
-    let g = gcd (unsigned_abs n) d in
-    let q = gcd_pos (unsigned_abs n) d p in
-    let least = div-le_self (unsigned_abs n) g in
-    rw (num-cancelled n d g q, size-int_div n g) least
-
-pub ratio-den-le : (n : ℤ) (d : ℕ) → 0 < d → den (ratio n d) ≤ d
-unfolding ratio
-ratio-den-le n d p =
-    let g = gcd (unsigned_abs n) d in
-    let q = gcd_pos (unsigned_abs n) d p in
-    let least = div-le_self d g in
-    rw (den-cancelled n d g p q (IsGcd-gcd (unsigned_abs n) d).1) least
-
+-- a ratio of two that fit
 pub fits-ratio : (n : ℤ) (d : ℕ) → 0 < d → unsigned_abs n < 2 ^ 63 → d < 2 ^ 63 → fits (ratio n d) ≡ true
 unfolding fits
 fits-ratio n d p small below =
-    let num = ratio-num-le n d p in
-    let under = ratio-den-le n d p in
+    let least = lowest_terms-no_greater n d p in
     grind (arith, nat_tests)
 
 -- one that is too large
 pub large-ratio : (n : ℤ) (d : ℕ) → 0 < d → 2 ^ 63 * d ≤ unsigned_abs n → fits (ratio n d) ≡ false
 unfolding fits
 large-ratio n d p large =
-    let value = ap unsigned_abs (ratio_value n d p) in
+    let value = ap unsigned_abs (lowest_terms-value n d p) in
     let left = unsigned_abs-mul (ratio n d).num (pos d) in
     let right = unsigned_abs-mul n (pos (den (ratio n d))) in
     let sizes : unsigned_abs (ratio n d).num * d ≡ unsigned_abs n * den (ratio n d) = sym left ∙ value ∙ right in
-    let under = den_pos (ratio n d) in
+    let under = lowest_terms-positive (ratio n d) in
     let grown : unsigned_abs n ≤ unsigned_abs n * den (ratio n d) = le-mul_of_pos_right (unsigned_abs n) under in
     let most : 2 ^ 63 * d ≤ unsigned_abs (ratio n d).num * d = omega arith in
     let size : 2 ^ 63 ≤ unsigned_abs (ratio n d).num = le_of_mul-le-mul_right most p in

@@ -12,9 +12,8 @@ use Rattle.std.specs.Char.{is_ascii_digit}
 use Rattle.std.specs.Str.Parse.{digits_value, AllDigits}
 use Rattle.exact_fraction.specs.Number.{Rational, den, ratio, fits, IsNumber}
 use Rattle.exact_fraction.specs.Checked.{made, fitting}
-use Rattle.exact_fraction.proofs.Lowest.{den_pos, ratio_itself}
-use Rattle.exact_fraction.proofs.Ratios.{ratio_same}
-use Rattle.exact_fraction.proofs.Ring.{nat, by, minus, ring}
+use Rattle.exact_fraction.proofs.Cited.{lowest_terms-positive, lowest_terms-itself, lowest_terms-of_same}
+use Rattle.std.proofs.Math.IntN.{negsuc-*ℤ-pos}
 use Rattle.num_text.specs.Fields.{field, past}
 use Rattle.num_text.specs.Times.{decimals}
 use Rattle.num_text.specs.Numbers.{without_end_zeros, is_negative, signed}
@@ -78,7 +77,7 @@ made_from q zero n some is fit = absurd (omega arith)
 made_from q (suc below) n some is fit = rw is (rw fit refl)
 
 pub made_back : (q : Rational) → IsNumber q → made q.num (pos (den q)) ≡ Some q
-made_back q held = made_from q (den q) q.num (den_pos q) (ratio_itself q held.lowest) held.fitting
+made_back q held = made_from q (den q) q.num (lowest_terms-positive q) (lowest_terms-itself q held.lowest) held.fitting
 
 -- ---- as a fraction
 pub fraction_back : (q : Rational) → IsNumber q → spelled_value (written_sign q.num ++ ((decimal (unsigned_abs q.num) ++ codes "/") ++ decimal (den q))) ≡ Some q
@@ -129,8 +128,12 @@ same_number num below scale units whole left size power tail is split parts behi
     let three = ap (λ x. num * x) (split ∙ sym both) in
     eq_of_mul-eq-mul_right tail some _ _ (omega arith)
 
+minus_product : (a b : ℕ) → neg_ℤ (pos a) *ℤ pos b ≡ neg_ℤ (pos (a * b))
+minus_product zero b = omega (arith, ints)
+minus_product (suc a) b = negsuc-*ℤ-pos a b
+
 minus_times : (a b c d : ℕ) → a * b ≡ c * d → neg_ℤ (pos a) *ℤ pos b ≡ neg_ℤ (pos c) *ℤ pos d
-minus_times a b c d e = ring (by (minus (nat a)) (nat b)) (by (minus (nat c)) (nat d)) (omega arith)
+minus_times a b c d e = minus_product a b ∙ ap (λ n. neg_ℤ (pos n)) e ∙ sym (minus_product c d)
 
 plus_times : (a b c d : ℕ) → a * b ≡ c * d → pos a *ℤ pos b ≡ pos c *ℤ pos d
 plus_times a b c d e = omega (arith, ints)
@@ -144,7 +147,7 @@ with_decimals_back : (q : Rational) (whole : ℕ) (behind : List ℕ) → IsNumb
 with_decimals_back q whole behind held same =
     let n : ℤ = signed (is_below q.num) (whole * 10 ^ length behind + digits_value 10 behind) in
     let cross : n *ℤ pos (den q) ≡ q.num *ℤ pos (10 ^ length behind) = signed_times (is_below q.num) _ _ _ _ same ∙ ap (λ m. m *ℤ pos (10 ^ length behind)) (signed_back q.num) in
-    let is = ratio_same n q.num (10 ^ length behind) (den q) (ten_pos (length behind)) (den_pos q) cross ∙ ratio_itself q held.lowest in
+    let is = lowest_terms-of_same n q.num (10 ^ length behind) (den q) (ten_pos (length behind)) (lowest_terms-positive q) cross ∙ lowest_terms-itself q held.lowest in
     made_from q (10 ^ length behind) n (ten_pos (length behind)) is held.fitting
 
 -- the decimals that are written
@@ -191,7 +194,7 @@ unfolding written_units
 value_by q false held e = fraction_back q held
 value_by q true held e =
     let small = held-small q held in
-    let some = den_pos q in
+    let some = lowest_terms-positive q in
     let none : 10 ^ 18 % den q ≡ 0 = grind (arith, nat_tests) in
     let split : 10 ^ 18 / den q * den q ≡ 10 ^ 18 = omega (arith, div-add-mod' (10 ^ 18) (den q)) in
     let few : 10 ^ 18 / den q ≤ 10 ^ 18 = div-le_self (10 ^ 18) (den q) in

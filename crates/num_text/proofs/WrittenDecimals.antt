@@ -6,7 +6,7 @@ use Rattle.std.specs.Prelude.{◌==◌, unsigned_abs, decimal}
 use Rattle.std.proofs.lemmas.Bool.Decides.{nat_tests}
 use Rattle.std.proofs.lemmas.Fmt.{length-decimal-le}
 use Rattle.exact_fraction.specs.Number.{Rational, den, fits, IsNumber}
-use Rattle.exact_fraction.proofs.Lowest.{den_pos}
+use Rattle.exact_fraction.proofs.Cited.{lowest_terms-positive}
 use Rattle.num_text.specs.Numbers.{without_end_zeros}
 use Rattle.num_text.specs.Written.{places}
 use Rattle.num_text.specs.Values.{written_behind}
@@ -50,7 +50,7 @@ pub held-small : (q : Rational) → IsNumber q → IsSmall q
 unfolding fits
 held-small q held =
     let fitting = held.fitting in
-    let some = den_pos q in
+    let some = lowest_terms-positive q in
     record { num = grind (arith, nat_tests); below = grind (arith, nat_tests); some = some }
 
 pub length-decimal : (n : ℕ) → n < 2 ^ 63 → length (decimal n) ≤ 19

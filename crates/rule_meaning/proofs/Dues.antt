@@ -3,7 +3,7 @@ use Rattle.std.proofs.Common.{◌≡◌, ℕ, Bool, true, false, not, Option, So
 use Rattle.std.proofs.lemmas.Int.{ints}
 use Rattle.exact_fraction.specs.Number.{Rational, den, whole, zero}
 use Rattle.exact_fraction.specs.Order.{◌≤ℚ◌}
-use Rattle.exact_fraction.proofs.Orders.{false_less}
+use Rattle.exact_fraction.proofs.Cited.{tests-not_less}
 use Rattle.rule_types.specs.declared.stop.Stop.{Stop}
 use Rattle.rule_types.specs.declared.rules.Rules.{Rules}
 use Rattle.rule_types.specs.declared.state.State.{State}
@@ -18,7 +18,7 @@ whole_at_least_zero a b h = record { le = omega (arith, ints) }
 
 due_by : (last : Option ℤ) (moment : ℤ) → ((m : ℤ) → last ≡ Some m → m ≤ℤ moment) → is_due_after zero last moment ≡ true
 due_by None moment h = refl
-due_by (Some m) moment h = ap not (false_less (whole (moment -ℤ m)) zero (whole_at_least_zero m moment (h m refl)))
+due_by (Some m) moment h = ap not ((tests-not_less (whole (moment -ℤ m)) zero).1 (whole_at_least_zero m moment (h m refl)))
 
 last_by : (s : State) (older : List State) (step : Rational) (m moment : ℤ) (b : Bool) → ((t : State) → IsIn (s ∷ older) t → t.moment ≤ℤ moment) → (last_due step older ≡ Some m → m ≤ℤ moment) → cond b (Some s.moment) (last_due step older) ≡ Some m → m ≤ℤ moment
 last_by s older step m moment true all older_says h = let e : s.moment ≡ m = grind arith in rw (sym e) (all s (inl refl))

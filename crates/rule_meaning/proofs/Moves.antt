@@ -4,7 +4,7 @@ use Rattle.std.specs.List.{AllZip}
 use Rattle.exact_fraction.specs.Number.{Rational}
 use Rattle.exact_fraction.specs.Operations.{sum_of, difference_of, round9_of}
 use Rattle.exact_fraction.specs.Order.{◌≤ℚ◌, less, lesser_of, greater_of}
-use Rattle.exact_fraction.proofs.Orders.{≤ℚ_refl, false_less, lesser_left, lesser_right, greater_left, greater_right}
+use Rattle.exact_fraction.proofs.Cited.{order-reflexive, tests-not_less, order-lesser, order-greater}
 use Rattle.rule_types.specs.declared.action.Order.{Order}
 use Rattle.rule_types.specs.declared.stop.Stop.{Stop}
 use Rattle.rule_types.specs.declared.rules.Rules.{Rules}
@@ -28,23 +28,23 @@ up_by : (y t m : Rational) (b : Bool) → less y t ≡ b → y ≤ℚ t → (y �
 up_by y t m true is h =
     rw is
     (let v = greater_of y (sum_of (round9_of y) m) in
-    (lesser_least_by y v t (less t v) refl (greater_left y (sum_of (round9_of y) m)) h, lesser_right v t))
-up_by y t m false is h = rw is (rw (false_less t y h) (h, ≤ℚ_refl t))
+    (lesser_least_by y v t (less t v) refl ((order-greater y (sum_of (round9_of y) m)).0) h, (order-lesser v t).1))
+up_by y t m false is h = rw is (rw ((tests-not_less t y).1 h) (h, order-reflexive t))
 
 down_by : (y t m : Rational) (b : Bool) → less t y ≡ b → t ≤ℚ y → (t ≤ℚ towards y t m) × (towards y t m ≤ℚ y)
 down_by y t m true is h =
-    rw (false_less y t h) (rw is
+    rw ((tests-not_less y t).1 h) (rw is
     (let v = lesser_of y (difference_of (round9_of y) m) in
-    (greater_right v t, greater_least_by y v t (less v t) refl (lesser_left y (difference_of (round9_of y) m)) h)))
-down_by y t m false is h = rw (false_less y t h) (rw is (≤ℚ_refl t, h))
+    ((order-greater v t).1, greater_least_by y v t (less v t) refl ((order-lesser y (difference_of (round9_of y) m)).0) h)))
+down_by y t m false is h = rw ((tests-not_less y t).1 h) (rw is (order-reflexive t, h))
 
 moved_up_by : (rate gap y t : Rational) (b : Bool) → has_rate rate ≡ b → y ≤ℚ t → (y ≤ℚ moved rate gap y t) × (moved rate gap y t ≤ℚ t)
 moved_up_by rate gap y t true is h = rw is (up_by y t (reach gap rate) (less y t) refl h)
-moved_up_by rate gap y t false is h = rw is (h, ≤ℚ_refl t)
+moved_up_by rate gap y t false is h = rw is (h, order-reflexive t)
 
 moved_down_by : (rate gap y t : Rational) (b : Bool) → has_rate rate ≡ b → t ≤ℚ y → (t ≤ℚ moved rate gap y t) × (moved rate gap y t ≤ℚ y)
 moved_down_by rate gap y t true is h = rw is (down_by y t (reach gap rate) (less t y) refl h)
-moved_down_by rate gap y t false is h = rw is (≤ℚ_refl t, h)
+moved_down_by rate gap y t false is h = rw is (order-reflexive t, h)
 
 pub moved_up : (rate gap y t : Rational) → y ≤ℚ t → (y ≤ℚ moved rate gap y t) × (moved rate gap y t ≤ℚ t)
 moved_up rate gap y t h = moved_up_by rate gap y t (has_rate rate) refl h
@@ -99,7 +99,7 @@ on_the_way_moved gap orders (link ∷ links) (rate ∷ rates) (old ∷ states) e
 on_the_way_stayed : (states : List LinkState) → AllZip IsOnTheWay states (stayed states)
 on_the_way_stayed [] = tt
 on_the_way_stayed (old ∷ states) =
-    (record { up = λ h. (≤ℚ_refl old.setting, h); down = λ h. (h, ≤ℚ_refl old.setting) }, on_the_way_stayed states)
+    (record { up = λ h. (order-reflexive old.setting, h); down = λ h. (h, order-reflexive old.setting) }, on_the_way_stayed states)
 
 on_the_way_by : (x : Rules) (gap : Rational) (s : State) (r : Result (List Order) Stop) → length x.rates ≡ length x.tracked → length s.links ≡ length x.tracked → AllZip IsOnTheWay s.links (standings_after x gap s r)
 on_the_way_by x gap s (Ok orders) e f = on_the_way_moved gap orders x.tracked x.rates s.links e f

@@ -3,7 +3,7 @@ use Rattle.std.proofs.Common.{◌≡◌, ℕ, Bool, true, false, not, ◌&&◌, 
 use Rattle.std.proofs.lemmas.Bool.Decides.{nat_tests}
 use Rattle.std.specs.List.{list_all, find}
 use Rattle.exact_fraction.specs.Number.{Rational}
-use Rattle.exact_fraction.proofs.Tells.{order_steps}
+use Rattle.exact_fraction.proofs.Cited.{order_steps}
 use Rattle.rule_types.specs.declared.action.ActionAt.{ActionAt}
 use Rattle.rule_types.specs.declared.rule.Rule.{Rule}
 use Rattle.rule_types.specs.Ranks.{outranks}

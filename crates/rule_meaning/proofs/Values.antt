@@ -8,8 +8,7 @@ use Rattle.exact_fraction.specs.Operations.{sum_of, round9_of}
 use Rattle.exact_fraction.specs.Checked.{checked}
 use Rattle.std.proofs.lemmas.Int.{ints}
 use Rattle.exact_fraction.specs.declared.error.Overflow.{Overflow}
-use Rattle.exact_fraction.proofs.Orders.{≤ℚ_refl, greater_left, lesser_left}
-use Rattle.exact_fraction.proofs.Tells.{order_steps}
+use Rattle.exact_fraction.proofs.Cited.{order-reflexive, order-greater, order-lesser, order_steps}
 use Rattle.rule_types.specs.declared.action.PidSet.{PidSet}
 use Rattle.rule_types.specs.declared.action.PidMemory.{PidMemory}
 use Rattle.rule_types.specs.declared.key.Attr.TheVariants.{TimeOpen, TimeClosed}
@@ -22,11 +21,11 @@ use Rattle.rule_meaning.specs.Pid.{IsPidValue, error_of, unstuck, change_of, bou
 use Rattle.rule_meaning.proofs.Moves.{lesser_least_by}
 
 clamped : (r : Result Rational Overflow) → IfOk (at_least_zero r) (λ y. zero ≤ℚ y)
-clamped (Ok y) = greater_left zero y
+clamped (Ok y) = (order-greater zero y).0
 clamped (Err why) = tt
 
 pub line_at_least_zero : (points : List Point) (x : Rational) → IfOk (line_value points x) (λ y. zero ≤ℚ y)
-line_at_least_zero [] x = ≤ℚ_refl zero
+line_at_least_zero [] x = order-reflexive zero
 line_at_least_zero (p ∷ more) x = clamped (line_from p more x)
 
 -- what the last step of a chain gives
@@ -39,10 +38,10 @@ unfolding whole den
 zero_below_one = record { le = omega (arith, ints) }
 
 bounded_in : (pump : Bool) (q : Rational) → IsPidValue pump (bounded pump q)
-bounded_in true q = record { least = greater_left zero q; most = λ h. (let no : true ≡ false = h in grind arith) }
+bounded_in true q = record { least = (order-greater zero q).0; most = λ h. (let no : true ≡ false = h in grind arith) }
 bounded_in false q = record {
-  least = lesser_least_by zero one (greater_of zero q) (less (greater_of zero q) one) refl zero_below_one (greater_left zero q);
-  most = λ h. lesser_left one (greater_of zero q);
+  least = lesser_least_by zero one (greater_of zero q) (less (greater_of zero q) one) refl zero_below_one ((order-greater zero q).0);
+  most = λ h. (order-lesser one (greater_of zero q)).0;
 }
 
 pub pid_in_bounds : (set : PidSet) (set_point x old minutes : Rational) (pump : Bool) (before : PidMemory) → IfOk (pid_step set set_point x old minutes pump before) (λ stepped. IsPidValue pump stepped.value)

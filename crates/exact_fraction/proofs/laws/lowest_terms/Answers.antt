@@ -1,36 +1,42 @@
 -- The laws of ratios.
-use Rattle.exact_fraction.proofs.Lowest.{IsGcd-gcd, IsLowest-ratio, ratio_value, unique, ratio_itself}
-use Rattle.exact_fraction.proofs.Results.{sum_lowest, difference_lowest, product_lowest, quotient_lowest, round9_lowest}
-use Rattle.exact_fraction.proofs.Sums.{sign_lowest}
-use Rattle.exact_fraction.proofs.Held.{IsLowest-whole}
+use Rattle.exact_fraction.proofs.Cited.{lowest_terms-positive, lowest_terms-greatest, lowest_terms-lowest, lowest_terms-value, lowest_terms-no_greater, lowest_terms-of_same, lowest_terms-unique, lowest_terms-itself, lowest_terms-of_whole, lowest_terms-of_sum, lowest_terms-of_product, lowest_terms-of_sign, lowest_terms-of_rounding}
 use Rattle.exact_fraction.proofs.laws.lowest_terms.Goals as goal
 
+pub returns-clause-positive : goal.returns-clause-positive
+returns-clause-positive c = lowest_terms-positive
+
 pub returns-clause-greatest : goal.returns-clause-greatest
-returns-clause-greatest c = IsGcd-gcd
+returns-clause-greatest c = lowest_terms-greatest
 
 pub returns-clause-lowest : goal.returns-clause-lowest
-returns-clause-lowest c = IsLowest-ratio
+returns-clause-lowest c = lowest_terms-lowest
 
 pub returns-clause-value : goal.returns-clause-value
-returns-clause-value c = ratio_value
+returns-clause-value c = lowest_terms-value
+
+pub returns-clause-no_greater : goal.returns-clause-no_greater
+returns-clause-no_greater c = lowest_terms-no_greater
+
+pub returns-clause-of_same : goal.returns-clause-of_same
+returns-clause-of_same c = lowest_terms-of_same
 
 pub returns-clause-unique : goal.returns-clause-unique
-returns-clause-unique c = unique
+returns-clause-unique c = lowest_terms-unique
 
 pub returns-clause-itself : goal.returns-clause-itself
-returns-clause-itself c = ratio_itself
+returns-clause-itself c = lowest_terms-itself
 
 pub returns-clause-of_whole : goal.returns-clause-of_whole
-returns-clause-of_whole c = IsLowest-whole
+returns-clause-of_whole c = lowest_terms-of_whole
 
 pub returns-clause-of_sum : goal.returns-clause-of_sum
-returns-clause-of_sum c = λ p q. (sum_lowest p q, difference_lowest p q)
+returns-clause-of_sum c = lowest_terms-of_sum
 
 pub returns-clause-of_product : goal.returns-clause-of_product
-returns-clause-of_product c = λ p q. (product_lowest p q, quotient_lowest p q)
+returns-clause-of_product c = lowest_terms-of_product
 
 pub returns-clause-of_sign : goal.returns-clause-of_sign
-returns-clause-of_sign c = sign_lowest
+returns-clause-of_sign c = lowest_terms-of_sign
 
 pub returns-clause-of_rounding : goal.returns-clause-of_rounding
-returns-clause-of_rounding c = round9_lowest
+returns-clause-of_rounding c = lowest_terms-of_rounding

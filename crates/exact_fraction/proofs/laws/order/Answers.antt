@@ -1,22 +1,42 @@
 -- The laws of the order.
-use Rattle.exact_fraction.proofs.Orders.{≤ℚ_trans, <ℚ-≤ℚ_trans, ≤ℚ-<ℚ_trans, lesser_left, lesser_right, greater_left, greater_right}
-use Rattle.exact_fraction.proofs.Sums.{dense}
+use Rattle.exact_fraction.proofs.Cited.{order-reflexive, order-total, order-apart, order-antisymmetric, order-same_is_at_most, order-below_is_at_most, order-transitive, order-below_transitive, order-below_at_most, order-at_most_below, order-lesser, order-greater, order-dense}
 use Rattle.exact_fraction.proofs.laws.order.Goals as goal
 
+pub returns-clause-reflexive : goal.returns-clause-reflexive
+returns-clause-reflexive c = order-reflexive
+
+pub returns-clause-total : goal.returns-clause-total
+returns-clause-total c = order-total
+
+pub returns-clause-apart : goal.returns-clause-apart
+returns-clause-apart c = order-apart
+
+pub returns-clause-antisymmetric : goal.returns-clause-antisymmetric
+returns-clause-antisymmetric c = order-antisymmetric
+
+pub returns-clause-same_is_at_most : goal.returns-clause-same_is_at_most
+returns-clause-same_is_at_most c = order-same_is_at_most
+
+pub returns-clause-below_is_at_most : goal.returns-clause-below_is_at_most
+returns-clause-below_is_at_most c = order-below_is_at_most
+
 pub returns-clause-transitive : goal.returns-clause-transitive
-returns-clause-transitive c = ≤ℚ_trans
+returns-clause-transitive c = order-transitive
+
+pub returns-clause-below_transitive : goal.returns-clause-below_transitive
+returns-clause-below_transitive c = order-below_transitive
 
 pub returns-clause-below_at_most : goal.returns-clause-below_at_most
-returns-clause-below_at_most c = <ℚ-≤ℚ_trans
+returns-clause-below_at_most c = order-below_at_most
 
 pub returns-clause-at_most_below : goal.returns-clause-at_most_below
-returns-clause-at_most_below c = ≤ℚ-<ℚ_trans
-
-pub returns-clause-dense : goal.returns-clause-dense
-returns-clause-dense c = dense
+returns-clause-at_most_below c = order-at_most_below
 
 pub returns-clause-lesser : goal.returns-clause-lesser
-returns-clause-lesser c = λ p q. (lesser_left p q, lesser_right p q)
+returns-clause-lesser c = order-lesser
 
 pub returns-clause-greater : goal.returns-clause-greater
-returns-clause-greater c = λ p q. (greater_left p q, greater_right p q)
+returns-clause-greater c = order-greater
+
+pub returns-clause-dense : goal.returns-clause-dense
+returns-clause-dense c = order-dense
