@@ -11,16 +11,20 @@ use Rattle.exact_fraction.specs.declared.relation.Relation.TheVariants.{Eq, Ne, 
 use Rattle.exact_fraction.proofs.Results.{sum_lowest, difference_lowest, product_lowest, quotient_lowest}
 use Rattle.exact_fraction.proofs.Products.{zero_true, true_zero}
 use Rattle.exact_fraction.proofs.Orders.{=ℚ-at_most, =ℚ-at_least, less_true, true_less, less_false, false_less, same_true, true_same, lesser_left, lesser_right, greater_left, greater_right, not_true, not_false, unequal_tells, unequal_test}
-pub use Rattle.exact_fraction.proofs.Lowest.{den_pos as lowest_terms-positive, ratio_value as lowest_terms-value, ratio_no_greater as lowest_terms-no_greater, unique as lowest_terms-unique, ratio_itself as lowest_terms-itself, IsLowest-ratio as lowest_terms-lowest, IsGcd-gcd as lowest_terms-greatest}
+pub use Rattle.exact_fraction.proofs.Lowest.{den_pos as lowest_terms-positive, ratio_value as lowest_terms-value, ratio_no_greater as lowest_terms-no_greater, ratio_divides as lowest_terms-divides, unique as lowest_terms-unique, ratio_itself as lowest_terms-itself, IsLowest-ratio as lowest_terms-lowest, IsGcd-gcd as lowest_terms-greatest}
 pub use Rattle.exact_fraction.proofs.Held.{IsLowest-whole as lowest_terms-of_whole}
 pub use Rattle.exact_fraction.proofs.Results.{round9_lowest as lowest_terms-of_rounding}
+pub use Rattle.exact_fraction.proofs.Fitting.{ratio_fits as lowest_terms-fits, ratio_overflows as lowest_terms-overflows}
 pub use Rattle.exact_fraction.proofs.Ratios.{ratio_same as lowest_terms-of_same}
 pub use Rattle.exact_fraction.proofs.Orders.{≤ℚ_refl as order-reflexive, ≤ℚ_total as order-total, ≤ℚ_apart as order-apart, ≤ℚ_antisymm as order-antisymmetric, <ℚ-at_most as order-below_is_at_most, ≤ℚ_trans as order-transitive, <ℚ_trans as order-below_transitive, <ℚ-≤ℚ_trans as order-below_at_most, ≤ℚ-<ℚ_trans as order-at_most_below, compares_ranks as tests-compares}
 pub use Rattle.exact_fraction.proofs.Tells.{less_tells as tells-less, same_tells as tells-same, fitting_tells as tells-fitting, checked_tells as tells-checked, quotient_tells as tells-quotient}
 pub use Rattle.exact_fraction.proofs.Sums.{dense as order-dense, sum_commutes as sums-commutes, sum_associates as sums-associates, as_sum as sums-as_sum, sum_of_same as sums-of_same, difference_of_same as sums-difference_of_same, sum_at_most as sums-at_most, sum_below as sums-below, difference_at_most as sums-difference_at_most, difference_below as sums-difference_below, taken_at_most as sums-taken_at_most, taken_below as sums-taken_below, sign_at_most as sums-sign_at_most, sign_below as sums-sign_below, sign_twice as sums-sign_twice, sign_lowest as lowest_terms-of_sign}
 pub use Rattle.exact_fraction.proofs.Lines.{sum_zero as sums-with_zero, sum_difference as sums-with_difference, difference_at_least as sums-difference_sign, product_zero as products-with_zero, line_between as straight_line-between}
 pub use Rattle.exact_fraction.proofs.Products.{product_commutes as products-commutes, product_one as products-with_one, product_of_same as products-of_same, product_at_most as products-at_most, product_below as products-below, product_turned_at_most as products-turned_at_most, product_turned_below as products-turned_below, quotient_product as products-quotient, quotient_at_most as products-quotient_at_most, quotient_turned as products-quotient_turned}
-pub use Rattle.exact_fraction.proofs.Rounding.{nearest as rounding-nearest, multiple as rounding-multiple, round9_at_most as rounding-at_most}
+pub use Rattle.exact_fraction.proofs.Rounding.{nearest as rounding-nearest, multiple as rounding-multiple, round9_at_most as rounding-at_most, round9_ratio as rounding-of_ratio, round9_divides as rounding-divides}
+pub use Rattle.exact_fraction.proofs.Quotients.{quotient_below as products-quotient_below, quotient_turned_below as products-quotient_turned_below, quotient_by_greater as products-by_greater, quotient_by_greater_turned as products-by_greater_turned, quotient_signs as products-quotient_signs}
+pub use Rattle.exact_fraction.proofs.Slopes.{line_at_first as straight_line-at_first, line_at_last as straight_line-at_last, line_rising as straight_line-rising, line_falling as straight_line-falling, line_rising_below as straight_line-rising_below, line_falling_below as straight_line-falling_below}
+pub use Rattle.exact_fraction.proofs.Equalities.{Frac-sames as equality-fraction, Moment-sames as equality-moment, Relation-sames as equality-relation, DivFault-sames as equality-fault}
 
 pub lowest_terms-of_sum : (p q : Rational) → IsLowest (sum_of p q) × IsLowest (difference_of p q)
 lowest_terms-of_sum p q = (sum_lowest p q, difference_lowest p q)

@@ -107,6 +107,15 @@ ratio_no_greater n d p =
     let below = div-le_self d g in
     (rw (num-cancelled n d g q, size-int_div n g) num, rw (den-cancelled n d g p q (IsGcd-gcd (unsigned_abs n) d).1) below)
 
+-- and its denominator divides the one that it is given
+pub ratio_divides : (n : ℤ) (d : ℕ) → 0 < d → den (ratio n d) ∣ d
+unfolding ratio
+ratio_divides n d p =
+    let g = gcd (unsigned_abs n) d in
+    let q = gcd_pos (unsigned_abs n) d p in
+    let h = (IsGcd-gcd (unsigned_abs n) d).1 in
+    rw (den-cancelled n d g p q h) (subst (λ x. (d / g) ∣ x) (div-mul_cancel g h) (dvd-mul_right (d / g) g))
+
 value_of_parts : (q n : ℤ) (k g d : ℕ) → q *ℤ pos g ≡ n → k * g ≡ d → q *ℤ pos d ≡ n *ℤ pos k
 value_of_parts q n k g d e f =
     ap (λ x. q *ℤ pos x) (sym f)

@@ -1,11 +1,12 @@
 -- Rounding gives the nearest multiple, half away from 0, and keeps the order.
-use Rattle.std.proofs.Common.{◌≡◌, ℕ, suc, ◌+◌, ◌*◌, ◌/◌, ◌%◌, ◌<◌, ◌≤◌, ℤ, pos, negsuc, neg_ℤ, ◌*ℤ◌, ◌≤ℤ◌, refl, arith, mul-pos, mod-lt, div-add-mod', mul-le-mul_right, le_of_mul-le-mul_right, le-div_iff_mul-le, div-mul-le_self}
+use Rattle.std.proofs.Common.{◌≡◌, ℕ, suc, ◌+◌, ◌*◌, ◌/◌, ◌%◌, ◌<◌, ◌≤◌, ℤ, pos, negsuc, neg_ℤ, ◌*ℤ◌, ◌≤ℤ◌, refl, ap, ◌∙◌, arith, mul-pos, mod-lt, div-add-mod', mul-le-mul_right, le_of_mul-le-mul_right, le-div_iff_mul-le, div-mul-le_self}
 use Rattle.std.proofs.lemmas.Int.{ints}
-use Rattle.exact_fraction.specs.Number.{Rational, den}
+use Rattle.std.specs.Int.{◌∣◌}
+use Rattle.exact_fraction.specs.Number.{Rational, den, ratio}
 use Rattle.exact_fraction.specs.Order.{◌≤ℚ◌}
 use Rattle.exact_fraction.specs.Operations.{nearest_whole, IsNearest, round9_of}
-use Rattle.exact_fraction.proofs.Ring.{at, nat, plus, less, by, minus, ring_le, ring_lt, parts_le}
-use Rattle.exact_fraction.proofs.Lowest.{den_pos, ratio_value}
+use Rattle.exact_fraction.proofs.Ring.{at, nat, plus, less, by, minus, ring, ring_le, ring_lt, parts_le}
+use Rattle.exact_fraction.proofs.Lowest.{den_pos, ratio_value, ratio_divides}
 use Rattle.exact_fraction.proofs.Ratios.{ratio_le}
 
 -- the quotient m of 2n + d by 2d
@@ -67,3 +68,24 @@ unfolding round9_of
 round9_at_most p q h =
     ratio_le _ _ 1000000000 1000000000 (omega arith) (omega arith)
     (same_den_le _ _ 1000000000 (nearest_le (p.num *ℤ pos 1000000000) (q.num *ℤ pos 1000000000) (den p) (den q) (den_pos p) (den_pos q) (billion_le p.num q.num (den p) (den q) h.le)))
+
+-- ---- a ratio is rounded as the fraction that it reduces
+nearest_same : (n m : ℤ) (b d : ℕ) → 0 < b → 0 < d → n *ℤ pos d ≡ m *ℤ pos b → nearest_whole n b ≡ nearest_whole m d
+nearest_same n m b d p q h =
+    let up = nearest_le n m b d p q (omega (arith, ints, h)) in
+    let down = nearest_le m n d b q p (omega (arith, ints, h)) in
+    omega (arith, ints, up, down)
+
+pub round9_ratio : (n : ℤ) (d : ℕ) → 0 < d → round9_of (ratio n d) ≡ ratio (nearest_whole (n *ℤ pos 1000000000) d) 1000000000
+unfolding round9_of
+round9_ratio n d p =
+    let r = ratio n d in
+    let cross : (r.num *ℤ pos 1000000000) *ℤ pos d ≡ (n *ℤ pos 1000000000) *ℤ pos (den r) =
+    ring (by (by (at r.num) (nat 1000000000)) (nat d)) (by (by (at r.num) (nat d)) (nat 1000000000)) (omega arith)
+    ∙ ap (λ x. x *ℤ pos 1000000000) (ratio_value n d p)
+    ∙ ring (by (by (at n) (nat (den r))) (nat 1000000000)) (by (by (at n) (nat 1000000000)) (nat (den r))) (omega arith) in
+    ap (λ x. ratio x 1000000000) (nearest_same (r.num *ℤ pos 1000000000) (n *ℤ pos 1000000000) (den r) d (den_pos r) p cross)
+
+pub round9_divides : (q : Rational) → den (round9_of q) ∣ 1000000000
+unfolding round9_of
+round9_divides q = ratio_divides (nearest_whole (q.num *ℤ pos 1000000000) (den q)) 1000000000 (omega arith)

@@ -1,10 +1,19 @@
 //! Laws of the numbers. Each function here does nothing: its contract states laws over all fractions, in lowest terms or
 //! not, for the proofs of the crates above.
-ghost use Rattle.std.specs.Prelude.{◌≡◌, ℕ, ◌<◌, ◌≤◌, true, false, unsigned_abs, ◌⊎◌, ◌↔◌, IsTrue, ℤ, pos, negsuc, ◌*ℤ◌};
+ghost use Rattle.std.specs.Prelude.{◌≡◌, ℕ, ◌<◌, ◌≤◌, ◌*◌, ◌^◌, true, false, unsigned_abs, ◌⊎◌, ◌↔◌, IsTrue, ℤ, pos, negsuc, ◌*ℤ◌};
 ghost use Rattle.exact_fraction.specs.Checked.{made, fitting, checked, is_zero, checked_quotient};
 ghost use Rattle.exact_fraction.specs.Moments.{moment_at};
 ghost use Rattle.exact_fraction.specs.declared.error.DivFault.TheVariants as fault;
-ghost use Rattle.std.specs.Int.{IsGcd};
+ghost use Rattle.std.specs.Int.{IsGcd, ◌∣◌};
+ghost use Rattle.std.specs.Bool.{Decides};
+ghost use Rattle.exact_fraction.specs.declared.frac.Frac.{Frac};
+ghost use Rattle.exact_fraction.specs.declared.moment.Moment.{Moment};
+ghost use Rattle.exact_fraction.specs.declared.relation.Relation.{Relation};
+ghost use Rattle.exact_fraction.specs.declared.error.DivFault.{DivFault};
+ghost use Rattle.exact_fraction.specs.contracts.frac.FracPartialEq.TheImpl as FracEq;
+ghost use Rattle.exact_fraction.specs.contracts.moment.MomentPartialEq.TheImpl as MomentEq;
+ghost use Rattle.exact_fraction.specs.contracts.relation.RelationPartialEq.TheImpl as RelationEq;
+ghost use Rattle.exact_fraction.specs.contracts.error.DivFaultPartialEq.TheImpl as DivFaultEq;
 ghost use Rattle.std.specs.Ordering.{MatchOrdering};
 ghost use Rattle.exact_fraction.specs.Number.{Rational, den, fits, gcd, ratio, whole, zero, one, IsLowest};
 ghost use Rattle.exact_fraction.specs.Order.{◌≤ℚ◌, ◌<ℚ◌, ◌=ℚ◌, compares, less, same, lesser_of, greater_of, IsBetween};
@@ -20,6 +29,9 @@ pub fn lowest_terms()
     ensures value { (n : ℤ) (d : ℕ) → 0 < d → (ratio n d).num *ℤ pos d ≡ n *ℤ pos (den (ratio n d)) }
     ensures no_greater { (n : ℤ) (d : ℕ) → 0 < d
         → (unsigned_abs (ratio n d).num ≤ unsigned_abs n) × (den (ratio n d) ≤ d) }
+    ensures divides { (n : ℤ) (d : ℕ) → 0 < d → den (ratio n d) ∣ d }
+    ensures fits { (n : ℤ) (d : ℕ) → 0 < d → unsigned_abs n < 2 ^ 63 → d < 2 ^ 63 → IsTrue (fits (ratio n d)) }
+    ensures overflows { (n : ℤ) (d : ℕ) → 0 < d → 2 ^ 63 * d ≤ unsigned_abs n → fits (ratio n d) ≡ false }
     ensures of_same { (n m : ℤ) (d e : ℕ) → 0 < d → 0 < e → n *ℤ pos e ≡ m *ℤ pos d → ratio n d ≡ ratio m e }
     ensures unique { (p q : Rational) → IsLowest p → IsLowest q → p =ℚ q → p ≡ q }
     ensures itself { (q : Rational) → IsLowest q → ratio q.num (den q) ≡ q }
@@ -96,7 +108,8 @@ pub fn sums()
     ensures sign_twice { (p : Rational) → negation_of (negation_of p) ≡ p }
 {}
 
-/// A product or quotient by a positive number keeps the order, and one by a negative number turns it (own).
+/// A product or quotient by a positive number keeps the order, and one by a negative number turns it. A quotient by a
+/// greater positive number is nearer to 0 (own).
 pub fn products()
     ensures commutes { (p q : Rational) → product_of p q ≡ product_of q p }
     ensures with_zero { (p : Rational) → product_of p zero =ℚ zero }
@@ -109,10 +122,25 @@ pub fn products()
     ensures quotient { (p q : Rational) → ¬ (q =ℚ zero) → product_of (quotient_of p q) q =ℚ p }
     ensures quotient_at_most { (p q r : Rational) → zero <ℚ r → p ≤ℚ q → quotient_of p r ≤ℚ quotient_of q r }
     ensures quotient_turned { (p q r : Rational) → r <ℚ zero → p ≤ℚ q → quotient_of q r ≤ℚ quotient_of p r }
+    ensures quotient_below { (p q r : Rational) → zero <ℚ r → p <ℚ q → quotient_of p r <ℚ quotient_of q r }
+    ensures quotient_turned_below { (p q r : Rational) → r <ℚ zero → p <ℚ q → quotient_of q r <ℚ quotient_of p r }
+    ensures by_greater { (p r s : Rational) → zero ≤ℚ p → zero <ℚ r → zero <ℚ s → r ≤ℚ s → quotient_of p s ≤ℚ quotient_of p r }
+    ensures by_greater_turned { (p r s : Rational) → p ≤ℚ zero → zero <ℚ r → zero <ℚ s → r ≤ℚ s
+        → quotient_of p r ≤ℚ quotient_of p s }
+    ensures quotient_signs { (p r : Rational) → ¬ (r =ℚ zero) → quotient_of (negation_of p) (negation_of r) ≡ quotient_of p r }
 {}
 
-/// A value on the straight line between two points lies between the values of the points (own).
+/// A straight line goes through its two points, rises throughout or falls throughout, and a value on it between two points
+/// lies between the values of the points (own).
 pub fn straight_line()
+    ensures at_first { (x0 y0 x1 y1 : Rational) → x0 <ℚ x1 → line_at x0 y0 x1 y1 x0 =ℚ y0 }
+    ensures at_last { (x0 y0 x1 y1 : Rational) → x0 <ℚ x1 → line_at x0 y0 x1 y1 x1 =ℚ y1 }
+    ensures rising { (x0 y0 x1 y1 x z : Rational) → x0 <ℚ x1 → y0 ≤ℚ y1 → x ≤ℚ z → line_at x0 y0 x1 y1 x ≤ℚ line_at x0 y0 x1 y1 z }
+    ensures falling { (x0 y0 x1 y1 x z : Rational) → x0 <ℚ x1 → y1 ≤ℚ y0 → x ≤ℚ z → line_at x0 y0 x1 y1 z ≤ℚ line_at x0 y0 x1 y1 x }
+    ensures rising_below { (x0 y0 x1 y1 x z : Rational) → x0 <ℚ x1 → y0 <ℚ y1 → x <ℚ z
+        → line_at x0 y0 x1 y1 x <ℚ line_at x0 y0 x1 y1 z }
+    ensures falling_below { (x0 y0 x1 y1 x z : Rational) → x0 <ℚ x1 → y1 <ℚ y0 → x <ℚ z
+        → line_at x0 y0 x1 y1 z <ℚ line_at x0 y0 x1 y1 x }
     ensures between { (x0 y0 x1 y1 x : Rational) → x0 <ℚ x1 → x0 ≤ℚ x → x ≤ℚ x1
         → IsBetween y0 y1 (line_at x0 y0 x1 y1 x) }
 {}
@@ -122,7 +150,18 @@ pub fn rounding()
     ensures nearest { (n : ℤ) (d : ℕ) → 0 < d → IsNearest n d (nearest_whole n d) }
     ensures multiple { (q : Rational) → (round9_of q).num *ℤ pos 1000000000
         ≡ nearest_whole (q.num *ℤ pos 1000000000) (den q) *ℤ pos (den (round9_of q)) }
+    ensures of_ratio { (n : ℤ) (d : ℕ) → 0 < d
+        → round9_of (ratio n d) ≡ ratio (nearest_whole (n *ℤ pos 1000000000) d) 1000000000 }
+    ensures divides { (q : Rational) → den (round9_of q) ∣ 1000000000 }
     ensures at_most { (p q : Rational) → p ≤ℚ q → round9_of p ≤ℚ round9_of q }
+{}
+
+/// `==` of numbers, moments, relations and faults tells exactly whether two are equal (own).
+pub fn equality()
+    ensures fraction { (a b : Frac) → Decides (FracEq.eq-value.it a b) (a ≡ b) }
+    ensures moment { (a b : Moment) → Decides (MomentEq.eq-value.it a b) (a ≡ b) }
+    ensures relation { (a b : Relation) → Decides (RelationEq.eq-value.it a b) (a ≡ b) }
+    ensures fault { (a b : DivFault) → Decides (DivFaultEq.eq-value.it a b) (a ≡ b) }
 {}
 
 /// Worked examples, as the definitions compute them (own).

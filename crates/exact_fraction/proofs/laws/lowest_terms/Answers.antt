@@ -1,5 +1,5 @@
 -- The laws of ratios.
-use Rattle.exact_fraction.proofs.Cited.{lowest_terms-positive, lowest_terms-greatest, lowest_terms-lowest, lowest_terms-value, lowest_terms-no_greater, lowest_terms-of_same, lowest_terms-unique, lowest_terms-itself, lowest_terms-of_whole, lowest_terms-of_sum, lowest_terms-of_product, lowest_terms-of_sign, lowest_terms-of_rounding}
+use Rattle.exact_fraction.proofs.Cited.{lowest_terms-positive, lowest_terms-greatest, lowest_terms-lowest, lowest_terms-value, lowest_terms-no_greater, lowest_terms-divides, lowest_terms-fits, lowest_terms-overflows, lowest_terms-of_same, lowest_terms-unique, lowest_terms-itself, lowest_terms-of_whole, lowest_terms-of_sum, lowest_terms-of_product, lowest_terms-of_sign, lowest_terms-of_rounding}
 use Rattle.exact_fraction.proofs.laws.lowest_terms.Goals as goal
 
 pub returns-clause-positive : goal.returns-clause-positive
@@ -16,6 +16,15 @@ returns-clause-value c = lowest_terms-value
 
 pub returns-clause-no_greater : goal.returns-clause-no_greater
 returns-clause-no_greater c = lowest_terms-no_greater
+
+pub returns-clause-divides : goal.returns-clause-divides
+returns-clause-divides c = lowest_terms-divides
+
+pub returns-clause-fits : goal.returns-clause-fits
+returns-clause-fits c = lowest_terms-fits
+
+pub returns-clause-overflows : goal.returns-clause-overflows
+returns-clause-overflows c = lowest_terms-overflows
 
 pub returns-clause-of_same : goal.returns-clause-of_same
 returns-clause-of_same c = lowest_terms-of_same

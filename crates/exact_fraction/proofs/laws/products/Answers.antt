@@ -1,5 +1,5 @@
 -- The laws of products and quotients.
-use Rattle.exact_fraction.proofs.Cited.{products-commutes, products-with_zero, products-with_one, products-of_same, products-at_most, products-below, products-turned_at_most, products-turned_below, products-quotient, products-quotient_at_most, products-quotient_turned}
+use Rattle.exact_fraction.proofs.Cited.{products-commutes, products-with_zero, products-with_one, products-of_same, products-at_most, products-below, products-turned_at_most, products-turned_below, products-quotient, products-quotient_at_most, products-quotient_turned, products-quotient_below, products-quotient_turned_below, products-by_greater, products-by_greater_turned, products-quotient_signs}
 use Rattle.exact_fraction.proofs.laws.products.Goals as goal
 
 pub returns-clause-commutes : goal.returns-clause-commutes
@@ -34,3 +34,18 @@ returns-clause-quotient_at_most c = products-quotient_at_most
 
 pub returns-clause-quotient_turned : goal.returns-clause-quotient_turned
 returns-clause-quotient_turned c = products-quotient_turned
+
+pub returns-clause-quotient_below : goal.returns-clause-quotient_below
+returns-clause-quotient_below c = products-quotient_below
+
+pub returns-clause-quotient_turned_below : goal.returns-clause-quotient_turned_below
+returns-clause-quotient_turned_below c = products-quotient_turned_below
+
+pub returns-clause-by_greater : goal.returns-clause-by_greater
+returns-clause-by_greater c = products-by_greater
+
+pub returns-clause-by_greater_turned : goal.returns-clause-by_greater_turned
+returns-clause-by_greater_turned c = products-by_greater_turned
+
+pub returns-clause-quotient_signs : goal.returns-clause-quotient_signs
+returns-clause-quotient_signs c = products-quotient_signs
