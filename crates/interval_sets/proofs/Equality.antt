@@ -5,9 +5,9 @@ use Rattle.std.specs.Cmp.Lexicographic.{pointwise}
 use Rattle.std.proofs.lemmas.Bool.{eqb-true}
 use Rattle.std.proofs.lemmas.Slice.Eq.{slice_eq-Decides}
 use Rattle.exact_fraction.specs.Number.{Rational}
-use Rattle.rule_types.specs.declared.interval.Interval.{Interval}
-use Rattle.rule_types.specs.contracts.interval.IntervalPartialEq.TheImpl as IntervalEq
-use Rattle.rule_types.proofs.Equal.{Interval-sames}
+use Rattle.interval_sets.specs.declared.interval.Interval.{Interval}
+use Rattle.interval_sets.specs.contracts.interval.IntervalPartialEq.TheImpl as IntervalEq
+use Rattle.interval_sets.proofs.EndEquality.{Interval-sames}
 use Rattle.interval_sets.specs.Sets.{members, IsNormal}
 use Rattle.interval_sets.proofs.Unique.{unique_pieces, no_pieces}
 

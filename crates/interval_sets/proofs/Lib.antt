@@ -1,6 +1,9 @@
 pub mod Bools
+pub mod Cited
+pub mod Convex
 pub mod CutOrder
 pub mod EdgeOrder
+pub mod EndEquality
 pub mod Equality
 pub mod Merging
 pub mod NormalForm

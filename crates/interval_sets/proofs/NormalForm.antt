@@ -3,8 +3,8 @@ use Rattle.std.proofs.Common.{◌≡◌, ◌↔◌, false, not, sym, ap, ◌∙�
 use Rattle.std.specs.Prelude.{IsTrue}
 use Rattle.std.proofs.lemmas.Bool.{and_parts, and_from, not-true, not-false}
 use Rattle.exact_fraction.specs.Number.{Rational}
-use Rattle.rule_types.specs.declared.interval.Bound.{Bound}
-use Rattle.rule_types.specs.declared.interval.Interval.{Interval}
+use Rattle.interval_sets.specs.declared.interval.Bound.{Bound}
+use Rattle.interval_sets.specs.declared.interval.Interval.{Interval}
 use Rattle.interval_sets.specs.Intervals.{is_above, is_below, lies_in, has_member, has_gap}
 use Rattle.interval_sets.specs.Edges.{is_past, low_edge, high_edge}
 use Rattle.interval_sets.proofs.EdgeOrder.{room, before_from_past}

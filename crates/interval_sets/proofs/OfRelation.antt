@@ -8,8 +8,8 @@ use Rattle.exact_fraction.specs.Relations.{relates}
 use Rattle.exact_fraction.specs.declared.relation.Relation.{Relation}
 use Rattle.exact_fraction.specs.declared.relation.Relation.TheVariants.{Eq, Ne}
 use Rattle.exact_fraction.proofs.Cited.{tests-same, tests-not_less, order-antisymmetric, order-same_is_at_most}
-use Rattle.rule_types.specs.declared.interval.Bound.TheVariants as end
-use Rattle.rule_types.specs.declared.interval.Interval.{Interval}
+use Rattle.interval_sets.specs.declared.interval.Bound.TheVariants as end
+use Rattle.interval_sets.specs.declared.interval.Interval.{Interval}
 use Rattle.interval_sets.specs.Sets.{members, IsNormal}
 use Rattle.interval_sets.proofs.EdgeOrder.{le_refl}
 

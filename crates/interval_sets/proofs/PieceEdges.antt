@@ -5,9 +5,9 @@ use Rattle.std.proofs.lemmas.Bool.{false≢true, and_parts, and_from}
 use Rattle.std.proofs.lemmas.List.{take_more}
 use Rattle.exact_fraction.specs.Number.{Rational}
 use Rattle.exact_fraction.specs.Order.{less}
-use Rattle.rule_types.specs.declared.interval.Bound.{Bound}
-use Rattle.rule_types.specs.declared.interval.Bound.TheVariants as end
-use Rattle.rule_types.specs.declared.interval.Interval.{Interval}
+use Rattle.interval_sets.specs.declared.interval.Bound.{Bound}
+use Rattle.interval_sets.specs.declared.interval.Bound.TheVariants as end
+use Rattle.interval_sets.specs.declared.interval.Interval.{Interval}
 use Rattle.interval_sets.specs.declared.edge.Edge.{Edge}
 use Rattle.interval_sets.specs.declared.edge.Edge.TheVariants.{BelowAll, Before, After, AboveAll}
 use Rattle.interval_sets.specs.declared.combination.Combination.{Combination}

@@ -2,9 +2,9 @@
 use Rattle.std.proofs.Common.{◌≡◌, Bool, true, false, List, [], ◌∷◌, refl, sym, ap, ap₂, ◌∙◌}
 use Rattle.std.proofs.lemmas.Bool.{false≢true, true≢false}
 use Rattle.exact_fraction.specs.Number.{Rational}
-use Rattle.rule_types.specs.declared.interval.Bound.{Bound}
-use Rattle.rule_types.specs.declared.interval.Bound.TheVariants as end
-use Rattle.rule_types.specs.declared.interval.Interval.{Interval}
+use Rattle.interval_sets.specs.declared.interval.Bound.{Bound}
+use Rattle.interval_sets.specs.declared.interval.Bound.TheVariants as end
+use Rattle.interval_sets.specs.declared.interval.Interval.{Interval}
 use Rattle.interval_sets.specs.declared.edge.Edge.{Edge}
 use Rattle.interval_sets.specs.Sets.{members, IsNormal}
 use Rattle.interval_sets.specs.Edges.{is_past, stands_before, low_edge, high_edge, low_end, high_end, edges_of, Rises, AreHeldEdges, differs, oddly_many}

@@ -2,9 +2,9 @@
 use Rattle.std.specs.Prelude.{◌≡◌, Bool, true, false, not, ◌&&◌, ◌||◌, List, [], ◌∷◌}
 use Rattle.exact_fraction.specs.Number.{Rational, IsNumber}
 use Rattle.exact_fraction.specs.Order.{less}
-use Rattle.rule_types.specs.declared.interval.Bound.{Bound}
-use Rattle.rule_types.specs.declared.interval.Bound.TheVariants as end
-use Rattle.rule_types.specs.declared.interval.Interval.{Interval}
+use Rattle.interval_sets.specs.declared.interval.Bound.{Bound}
+use Rattle.interval_sets.specs.declared.interval.Bound.TheVariants as end
+use Rattle.interval_sets.specs.declared.interval.Interval.{Interval}
 use Rattle.interval_sets.specs.declared.edge.Edge.{Edge}
 use Rattle.interval_sets.specs.declared.edge.Edge.TheVariants.{BelowAll, Before, After, AboveAll}
 use Rattle.interval_sets.specs.declared.combination.Combination.{Combination}

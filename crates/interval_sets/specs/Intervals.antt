@@ -2,9 +2,9 @@
 use Rattle.std.specs.Prelude.{Bool, true, false, not, ◌&&◌}
 use Rattle.exact_fraction.specs.Number.{Rational, IsNumber}
 use Rattle.exact_fraction.specs.Order.{less}
-use Rattle.rule_types.specs.declared.interval.Bound.{Bound}
-use Rattle.rule_types.specs.declared.interval.Bound.TheVariants as end
-use Rattle.rule_types.specs.declared.interval.Interval.{Interval}
+use Rattle.interval_sets.specs.declared.interval.Bound.{Bound}
+use Rattle.interval_sets.specs.declared.interval.Bound.TheVariants as end
+use Rattle.interval_sets.specs.declared.interval.Interval.{Interval}
 
 -- whether a fraction is on the inner side of a low end: above it, or at least it where the end is not left out (own)
 abbrev pub is_above : Bound → Rational → Bool

@@ -2,7 +2,7 @@
 use Rattle.std.specs.Prelude.{Bool, true, ◌&&◌, List, [], ◌∷◌, IsTrue}
 use Rattle.std.specs.List.{list_any}
 use Rattle.exact_fraction.specs.Number.{Rational}
-use Rattle.rule_types.specs.declared.interval.Interval.{Interval}
+use Rattle.interval_sets.specs.declared.interval.Interval.{Interval}
 use Rattle.interval_sets.specs.Intervals.{lies_in, has_member, has_gap, IsHeld}
 
 -- whether a fraction is a member of a set: it lies in one of the set's pieces (own)

@@ -1,9 +1,9 @@
 //! Edges of sets.
 ghost use Rattle.std.specs.Prelude.{◌≡◌};
 
+use crate::interval::Bound;
 use exact_fraction::frac::Frac;
 use exact_fraction::relation::Relation;
-use rule_types::Bound;
 
 /// A place on the line of fractions at which membership in a set can change: an end of the line, or just below or just
 /// above a number (own).

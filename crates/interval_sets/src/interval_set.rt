@@ -5,11 +5,11 @@ ghost use Rattle.exact_fraction.specs.Relations.{relates};
 ghost use Rattle.interval_sets.specs.Sets.{members, IsNormal};
 
 use crate::combination::Combination;
-use crate::pieces::{combine, lies_in, pieces_of_relation};
+use crate::interval::{Bound, Interval};
+use crate::pieces::{combine, pieces_of_relation};
 use byte_edge::NoMemory;
 use exact_fraction::frac::Frac;
 use exact_fraction::relation::Relation;
-use rule_types::{Bound, Interval};
 use std::alloc::{AllocError, Global};
 use std::marker::Model;
 
@@ -24,7 +24,7 @@ pub struct IntervalSet {
 
 impl Model for IntervalSet {
     ghost use Rattle.std.specs.Prelude.{List};
-    ghost use Rattle.rule_types.specs.declared.interval.Interval.{Interval};
+    ghost use Rattle.interval_sets.specs.declared.interval.Interval.{Interval};
     ghost use Rattle.interval_sets.specs.Sets.{IsNormal};
 
     ghost Value = { List Interval };
@@ -83,7 +83,7 @@ impl IntervalSet {
     pub fn holds(&self, x: Frac) -> bool
         ensures value { result ≡ members self.now x }
     {
-        self.pieces.iter().any(|piece| lies_in(piece, &x))
+        self.pieces.iter().any(|piece| piece.holds(&x))
     }
 
     /// Whether no fraction is a member (own).
@@ -115,14 +115,13 @@ impl Clone for IntervalSet {
 /// Two sets are equal exactly where they have the same members among all fractions, and then they have the same pieces
 /// (own).
 impl PartialEq for IntervalSet {
-    ghost use Rattle.std.specs.Cmp.{decided, partial_equiv_from_equiv};
     ghost use Rattle.std.specs.Cmp.Lexicographic.{pointwise, lists_per};
-    ghost use Rattle.rule_types.specs.contracts.interval.IntervalPartialEq.TheImpl as IntervalEq;
-    ghost use Rattle.rule_types.proofs.Equal.{Interval-sames};
+    ghost use Rattle.interval_sets.specs.contracts.interval.IntervalPartialEq.TheImpl as IntervalEq;
+    ghost use Rattle.interval_sets.specs.contracts.interval.IntervalPartialEq.TheImpl.Laws.{laws-law};
 
     ghost eq = { λ set other. pointwise IntervalEq.eq-value.it set other };
 
-    ghost laws = { lists_per (partial_equiv_from_equiv (decided IntervalEq.eq-value.it Interval-sames)) };
+    ghost laws = { lists_per laws-law };
 
     fn eq(&self, other: &Self) -> bool
         ensures same_members { IsTrue result ↔ ((q : Rational) → members self.now q ≡ members other.now q) }
@@ -134,10 +133,8 @@ impl PartialEq for IntervalSet {
 }
 
 impl Eq for IntervalSet {
-    ghost use Rattle.std.specs.Cmp.{decided};
     ghost use Rattle.std.specs.Cmp.Lexicographic.{lists_equiv};
-    ghost use Rattle.rule_types.specs.contracts.interval.IntervalPartialEq.TheImpl as IntervalEq;
-    ghost use Rattle.rule_types.proofs.Equal.{Interval-sames};
+    ghost use Rattle.interval_sets.specs.contracts.interval.IntervalEq.TheImpl.Laws.{laws-law};
 
-    ghost laws = { lists_equiv (decided IntervalEq.eq-value.it Interval-sames) };
+    ghost laws = { lists_equiv laws-law };
 }

@@ -2,13 +2,28 @@
 //! of the crates above.
 ghost use Rattle.std.specs.Prelude.{◌≡◌, ℕ, ◌<◌, ◌↔◌, true, false, List, [], ◌∷◌, Some, IsTrue, pos, slice_get};
 ghost use Rattle.exact_fraction.specs.Number.{Rational, whole};
-ghost use Rattle.exact_fraction.specs.Order.{◌<ℚ◌};
-ghost use Rattle.rule_types.specs.declared.interval.Bound.{Bound};
-ghost use Rattle.rule_types.specs.declared.interval.Bound.TheVariants as end;
-ghost use Rattle.rule_types.specs.declared.interval.Interval.{Interval};
+ghost use Rattle.exact_fraction.specs.Order.{◌<ℚ◌, ◌≤ℚ◌};
+ghost use Rattle.std.specs.Bool.{Decides};
+ghost use Rattle.interval_sets.specs.contracts.interval.BoundPartialEq.TheImpl as BoundEq;
+ghost use Rattle.interval_sets.specs.contracts.interval.IntervalPartialEq.TheImpl as IntervalEq;
+ghost use Rattle.interval_sets.specs.declared.interval.Bound.{Bound};
+ghost use Rattle.interval_sets.specs.declared.interval.Bound.TheVariants as end;
+ghost use Rattle.interval_sets.specs.declared.interval.Interval.{Interval};
 ghost use Rattle.interval_sets.specs.Intervals.{is_above, is_below, lies_in, has_member, has_gap};
 ghost use Rattle.interval_sets.specs.Sets.{members, is_normal, IsNormal};
 ghost use Rattle.interval_sets.specs.Cuts.{IsRising};
+
+/// What lies between two fractions of an interval lies in it (own).
+pub fn intervals()
+    ensures convex { (piece : Interval) (p q r : Rational) → IsTrue (lies_in piece p) → IsTrue (lies_in piece r)
+        → p ≤ℚ q → q ≤ℚ r → IsTrue (lies_in piece q) }
+{}
+
+/// `==` of ends and of intervals tells exactly whether two are equal (own).
+pub fn equality()
+    ensures bound { (a b : Bound) → Decides (BoundEq.eq-value.it a b) (a ≡ b) }
+    ensures interval { (a b : Interval) → Decides (IntervalEq.eq-value.it a b) (a ≡ b) }
+{}
 
 /// Normal form is unique, its tests of ends tell whether some fraction lies in a piece and between two pieces (own).
 pub fn normal_form()

@@ -4,6 +4,7 @@
 mod combination;
 mod cut_list;
 mod edge;
+mod interval;
 mod interval_set;
 pub mod laws;
 mod merge;
@@ -11,6 +12,7 @@ mod pieces;
 mod steps;
 
 pub use cut_list::CutList;
+pub use interval::{Bound, Interval};
 pub use interval_set::IntervalSet;
 pub use steps::Steps;
 

@@ -2,17 +2,16 @@
 ghost use Rattle.std.specs.Prelude.{◌≡◌, [], ◌∷◌, true, false, IfOk};
 ghost use Rattle.exact_fraction.specs.Number.{Rational};
 ghost use Rattle.exact_fraction.specs.Relations.{relates};
-ghost use Rattle.interval_sets.specs.Intervals.{lies_in, is_above, is_below};
 ghost use Rattle.interval_sets.specs.Sets.{members, IsNormal};
 ghost use Rattle.interval_sets.specs.Edges.{combined, edges_of, Rises, oddly_many};
 
 use crate::combination::Combination;
 use crate::edge::Edge;
+use crate::interval::{Bound, Interval};
 use crate::merge::merged;
 use byte_edge::NoMemory;
 use exact_fraction::frac::Frac;
 use exact_fraction::relation::Relation;
-use rule_types::{Bound, Interval};
 use std::alloc::Global;
 
 /// The pieces of the combination `how` of two sets.
@@ -111,33 +110,4 @@ fn all_but(alloc: Global, c: Frac) -> Result<Vec<Interval>, NoMemory>
         high: Bound::NoBound,
     })?;
     Ok(pieces)
-}
-
-/// Whether a number lies in an interval.
-pub(crate) fn lies_in(piece: &Interval, x: &Frac) -> bool
-    ensures value { result ≡ lies_in piece.now x.now }
-{
-    is_above(&piece.low, x) && is_below(&piece.high, x)
-}
-
-/// Whether a number is on the inner side of a low end.
-fn is_above(low: &Bound, x: &Frac) -> bool
-    ensures value { result ≡ is_above low.now x.now }
-{
-    match low {
-        Bound::NoBound => true,
-        Bound::Bound(number, true) => Relation::Lt.holds(number, x),
-        Bound::Bound(number, false) => Relation::Le.holds(number, x),
-    }
-}
-
-/// Whether a number is on the inner side of a high end.
-fn is_below(high: &Bound, x: &Frac) -> bool
-    ensures value { result ≡ is_below high.now x.now }
-{
-    match high {
-        Bound::NoBound => true,
-        Bound::Bound(number, true) => Relation::Lt.holds(x, number),
-        Bound::Bound(number, false) => Relation::Le.holds(x, number),
-    }
 }
