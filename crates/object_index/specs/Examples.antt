@@ -1,11 +1,26 @@
--- What some names find, worked out by hand.
-use Rattle.std.specs.Prelude.{◌≡◌, ℕ, [], ◌∷◌, Result, Ok, Err, codes}
+-- What some names find, and whether the objects of some rules are there, worked out by hand.
+use Rattle.std.specs.Prelude.{◌≡◌, ℕ, true, false, [], ◌∷◌, None, Result, Ok, Err, codes}
+use Rattle.exact_fraction.specs.Number.{zero, one}
+use Rattle.exact_fraction.specs.declared.relation.Relation.TheVariants.{Gt}
 use Rattle.rule_types.specs.declared.object.Space.TheVariants.{Nodes, Links}
 use Rattle.rule_types.specs.declared.object.ObjectNo.{ObjectNo}
 use Rattle.rule_types.specs.declared.object.ObjectKind.TheVariants as kinds
 use Rattle.rule_types.specs.declared.object.ObjectWord.TheVariants as words
+use Rattle.rule_types.specs.declared.key.Attr.TheVariants.{Depth, Status}
+use Rattle.rule_types.specs.declared.key.Key.{Key}
+use Rattle.rule_types.specs.declared.key.Key.TheVariants.{Object}
+use Rattle.rule_types.specs.declared.condition.Condition.{Condition}
+use Rattle.rule_types.specs.declared.condition.Side.TheVariants as side
+use Rattle.rule_types.specs.declared.condition.Right.TheVariants as right
+use Rattle.rule_types.specs.declared.action.Action.{Action}
+use Rattle.rule_types.specs.declared.action.What.TheVariants.{Constant}
+use Rattle.rule_types.specs.declared.rule.Rule.{Rule}
+use Rattle.rule_types.specs.declared.names.NameDef.{NameDef}
+use Rattle.rule_types.specs.declared.names.NameKind.TheVariants.{Variable}
+use Rattle.rule_types.specs.declared.rules.Rules.{Rules}
 use Rattle.object_index.specs.declared.unresolved.Unresolved.{Unresolved}
 use Rattle.object_index.specs.declared.unresolved.Unresolved.TheVariants.{Unknown, Ambiguous, WrongKind}
+use Rattle.object_index.specs.Holding.{HoldsRule, HoldsObjects}
 use Rattle.object_index.specs.Objects.{Objects, with_object, resolution}
 
 -- two pumps and two conduits, whose names differ in case alone, and a node (own)
@@ -36,3 +51,56 @@ pub record AreExamples : Type 0 where
   pub not_narrowed : resolution network words.Pump (codes "PA") ≡ Err Ambiguous
   pub without_case : resolution network words.Node (codes "j1") ≡ Ok (record { space = Nodes; index = 0 })
   pub another_space : resolution network words.Link (codes "J1") ≡ Err Unknown
+
+-- the depth of a node and the status of a link (own)
+abbrev pub depth : ℕ → Key
+depth node = Object (record { space = Nodes; index = node }) Depth
+
+abbrev pub status : ℕ → Key
+status link = Object (record { space = Links; index = link }) Status
+
+-- a condition that a key is above 0, and an action that closes a link (own)
+abbrev pub if_above : Key → Condition
+if_above key = record { left = side.Key key; rel = Gt; right = right.Value zero; half_step = false; joined_by_and = true }
+
+abbrev pub close : ℕ → Action
+close link = record { link = link; what = Constant zero }
+
+-- a variable for a key (own)
+abbrev pub variable : Key → NameDef
+variable key = record { name = codes "a"; stands_for = Variable key }
+
+-- where a link is open, another is closed (own)
+abbrev pub closing_rule : ℕ → ℕ → Rule
+closing_rule open_link closed_link = record {
+  id = codes "R1";
+  conditions = if_above (status open_link) ∷ [];
+  then_actions = close closed_link ∷ [];
+  else_actions = [];
+  priority = None;
+}
+
+-- this rule alone, with a variable for the depth of a node (own)
+abbrev pub closing : ℕ → ℕ → ℕ → Rules
+closing node open_link closed_link = record {
+  rules = closing_rule open_link closed_link ∷ [];
+  names = variable (depth node) ∷ [];
+  input_keys = depth node ∷ [];
+  tracked = open_link ∷ closed_link ∷ [];
+  controlled = closed_link ∷ [];
+  pumps = false ∷ [];
+  initial = one ∷ one ∷ [];
+  rates = zero ∷ zero ∷ [];
+  start = None;
+  routing_step = one;
+  rule_step = zero;
+}
+
+-- node 0 and links 0 to 3 are there, and no others until one more link is added (own)
+pub record AreHeld : Type 0 where
+  pub each_there : HoldsObjects network (closing 0 0 3)
+  pub no_node : HoldsObjects network (closing 1 0 3) → ⊥
+  pub none_tracked : HoldsObjects network (closing 0 4 3) → ⊥
+  pub none_read : HoldsRule network (closing_rule 4 3) → ⊥
+  pub none_closed : HoldsRule network (closing_rule 0 4) → ⊥
+  pub then_there : HoldsObjects larger (closing 0 0 4)

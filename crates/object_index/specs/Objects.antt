@@ -38,6 +38,10 @@ in_space objects Gages = objects.gages
 abbrev pub object_count : Objects → ℕ
 object_count objects = length objects.nodes + length objects.links + length objects.gages
 
+-- the object of a number, if there is one
+abbrev pub object_at : Objects → ObjectNo → Option Object
+object_at objects object = slice_get (in_space objects object.space) object.index
+
 -- the space that an object's name stands in: nodes, links and gages each have one (own)
 abbrev pub kind_space : ObjectKind → Space
 kind_space kinds.Gage = Gages
@@ -48,7 +52,7 @@ kind_space kinds.Orifice = Links
 kind_space kinds.Weir = Links
 kind_space kinds.Outlet = Links
 
--- the space that a word of a control line looks in (SWMM 5.2 manual, [CONTROLS])
+-- the space that a word of a control line looks in (the words: SWMM 5.2 manual, [CONTROLS]; the spaces: own)
 abbrev pub word_space : ObjectWord → Space
 word_space words.Gage = Gages
 word_space words.Node = Nodes
@@ -69,7 +73,8 @@ is_link kinds.Orifice = true
 is_link kinds.Weir = true
 is_link kinds.Outlet = true
 
--- whether a word accepts an object of a kind: LINK every link, and each other word its own kind (SWMM 5.2 manual, [CONTROLS])
+-- whether a word accepts an object of a kind: LINK every link, and each other word its own kind (the words and which kinds
+-- they accept: SWMM 5.2 manual, [CONTROLS])
 abbrev pub accepts : ObjectWord → ObjectKind → Bool
 accepts words.Link kind = is_link kind
 accepts words.Gage kinds.Gage = true
@@ -103,7 +108,7 @@ with_object_in Gages objects kind name = record objects { gages = and_object obj
 abbrev pub with_object : Objects → ObjectKind → List ℕ → Objects
 with_object objects kind name = with_object_in (kind_space kind) objects kind name
 
--- the number of the next object of a kind: the number of objects in its space
+-- the number of the next object of a kind: the number of objects in its space (own)
 abbrev pub next_number : Objects → ObjectKind → ObjectNo
 next_number objects kind = record { space = kind_space kind; index = length (in_space objects (kind_space kind)) }
 
@@ -119,8 +124,8 @@ resolved word objects Several = Err Ambiguous
 resolved word objects (At index) =
     if accepts_at word (slice_get objects index) then Ok (record { space = word_space word; index = index }) else Err WrongKind
 
--- what a word and a name give: the object of the word's space that the name finds, if the word accepts its kind; the kind
--- does not narrow the search (own)
+-- what a word and a name give: the object of the word's space that the name finds, by its bytes and failing that with case
+-- ignored, if the word accepts its kind; the kind does not narrow the search (own)
 abbrev pub resolution : Objects → ObjectWord → List ℕ → Result ObjectNo Unresolved
 resolution objects word name =
     resolved word (in_space objects (word_space word)) (finds (names_of (in_space objects (word_space word))) name)

@@ -1,7 +1,7 @@
 //! The index of a network's objects.
-ghost use Rattle.std.specs.Prelude.{◌≡◌, ◌<◌, ◌↔◌, IfOk, OnOk, OnErr, IsTrue, Err, option_map, slice_get};
+ghost use Rattle.std.specs.Prelude.{◌≡◌, ◌<◌, ◌↔◌, IfOk, OnOk, OnErr, IsTrue, Err, option_map};
 ghost use Rattle.rule_types.specs.declared.refusal.AddFault.TheVariants.{Duplicate};
-ghost use Rattle.object_index.specs.Objects.{no_objects, in_space, object_count, kind_space, word_space, accepts as accepts_kind, is_named, with_object, next_number, resolution, Answers};
+ghost use Rattle.object_index.specs.Objects.{no_objects, in_space, object_count, object_at, kind_space, word_space, accepts as accepts_kind, is_named, with_object, next_number, resolution, Answers};
 
 use crate::found::Found;
 use crate::space_names::SpaceNames;
@@ -28,7 +28,7 @@ impl Model for ObjectIndex {
 }
 
 impl ObjectIndex {
-    /// No objects. It takes no memory.
+    /// No objects. It takes no memory, and keeps the allocator for `add` (own).
     pub fn new(alloc: Global) -> ObjectIndex
         ensures value { result ≡ no_objects }
     {
@@ -41,13 +41,10 @@ impl ObjectIndex {
 
     /// Adds an object at the end of the space of its kind, and returns its number. Duplicate exactly where an object of
     /// the space has these very bytes as its name, and NoMemory only where memory is wanting: the index is then as before
-    /// (own). It costs time by the length of the name, however many objects there are, and now and then that of making room.
-    pub fn add(
-        &mut self,
-        alloc: Global,
-        kind: ObjectKind,
-        name: &[u8],
-    ) -> Result<ObjectNo, AddFault>
+    /// (own). On average it costs time by the length of the name, however many objects there are, and now and then, where
+    /// it makes room, by their number; names picked to fall together in the hash, whose seed is fixed, cost time by their
+    /// number. It keeps the name twice, as it is and in lower case.
+    pub fn add(&mut self, kind: ObjectKind, name: &[u8]) -> Result<ObjectNo, AddFault>
         requires few { object_count self.old < 65_536 }
         ensures number { IfOk result (λ object. object ≡ next_number self.old kind) }
         ensures added { OnOk result (self.new ≡ with_object self.old kind name.now) }
@@ -56,9 +53,9 @@ impl ObjectIndex {
     {
         let space = space_of_kind(kind);
         let added = match space {
-            Space::Nodes => self.nodes.add(alloc, kind, name),
-            Space::Links => self.links.add(alloc, kind, name),
-            Space::Gages => self.gages.add(alloc, kind, name),
+            Space::Nodes => self.nodes.add(kind, name),
+            Space::Links => self.links.add(kind, name),
+            Space::Gages => self.gages.add(kind, name),
         };
         match added {
             Ok(index) => Ok(ObjectNo { space, index }),
@@ -69,8 +66,10 @@ impl ObjectIndex {
     /// The object that a word and a name of a control line give. The name finds the object of the word's space with the
     /// same bytes, and failing that the only one that is equal when the case of ASCII letters is ignored: Unknown where
     /// there is none, Ambiguous where there are several. WrongKind where the word does not accept the found object's kind;
-    /// the kind does not narrow the search. NoMemory only where memory is wanting (SWMM 5.2 manual, [CONTROLS], and own).
-    /// It costs time by the length of the name, however many objects there are.
+    /// the kind does not narrow the search. NoMemory only where memory is wanting (the words and the kinds that they
+    /// accept: SWMM 5.2 manual, [CONTROLS]; the spaces and the look-up: own).
+    /// It costs time as `add` does, but makes no room, and takes memory for one copy of the name where no name has the same
+    /// bytes.
     pub fn resolve(
         &self,
         alloc: Global,
@@ -97,12 +96,29 @@ impl ObjectIndex {
         }
     }
 
-    /// The name of an object: None exactly where there is no such object (own). It costs the same however many there are.
+    /// The name of an object: None exactly where there is no such object (own). It takes no memory, and costs the same
+    /// however many objects there are.
     pub fn name(&self, object: ObjectNo) -> Option<&[u8]>
         ensures value { option_map (λ name. name.now) result
-            ≡ option_map (λ held. held.name) (slice_get (in_space self.now object.space) object.index) }
+            ≡ option_map (λ held. held.name) (object_at self.now object) }
     {
         self.names_in(object.space).name(object.index)
+    }
+
+    /// The kind of an object: None exactly where there is no such object (own). It takes no memory, and costs the same
+    /// however many objects there are.
+    pub fn kind(&self, object: ObjectNo) -> Option<ObjectKind>
+        ensures value { result ≡ option_map (λ held. held.kind) (object_at self.now object) }
+    {
+        self.names_in(object.space).kind(object.index)
+    }
+
+    /// How many objects there are in the three spaces together (own). It takes no memory, and costs the same however many
+    /// there are.
+    pub fn count(&self) -> usize
+        ensures value { result ≡ object_count self.now }
+    {
+        self.nodes.len() + self.links.len() + self.gages.len()
     }
 
     /// The names of a space.

@@ -1,7 +1,23 @@
 //! Laws of the definitions that the contracts cite: each function is empty, and its contract is the law.
-ghost use Rattle.object_index.specs.Examples.{AreExamples};
+ghost use Rattle.std.specs.Prelude.{◌≡◌, ℕ, List, Ok};
+ghost use Rattle.rule_types.specs.declared.object.ObjectNo.{ObjectNo};
+ghost use Rattle.rule_types.specs.declared.object.ObjectWord.{ObjectWord};
+ghost use Rattle.object_index.specs.Examples.{AreExamples, AreHeld};
+ghost use Rattle.object_index.specs.Holding.{HoldsObject};
+ghost use Rattle.object_index.specs.Objects.{Objects, resolution};
 
 /// What some names find, worked out by hand (own).
 pub fn examples()
     ensures { AreExamples }
+{}
+
+/// Whether a small network has the objects that some rules name, worked out by hand (own).
+pub fn held_examples()
+    ensures { AreHeld }
+{}
+
+/// What a word and a name give is an object of the network (own).
+pub fn resolved_objects()
+    ensures held { (objects : Objects) (word : ObjectWord) (name : List ℕ) (object : ObjectNo)
+        → resolution objects word name ≡ Ok object → HoldsObject objects object }
 {}

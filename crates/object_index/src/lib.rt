@@ -1,4 +1,5 @@
-//! Names of objects, found as SWMM finds them: by the same bytes, and failing that with the case of ASCII letters ignored.
+//! The named objects of a network, found by name: by the same bytes, and failing that with the case of ASCII letters
+//! ignored. The look-up, the spaces of names and the numbers of objects are this project's own.
 #![tactic(auto)]
 
 mod found;

@@ -1,5 +1,5 @@
 //! The names of one space.
-ghost use Rattle.std.specs.Prelude.{◌≡◌, [], ◌<◌, ◌↔◌, IfOk, OnOk, OnErr, IsTrue, Err, false, option_map, slice_get, length};
+ghost use Rattle.std.specs.Prelude.{◌≡◌, [], ◌<◌, ◌≤◌, ◌↔◌, IfOk, OnOk, OnErr, IsTrue, Err, false, option_map, slice_get, length};
 ghost use Rattle.std.specs.Str.{bytes_eq};
 ghost use Rattle.std.specs.Map.{lookup};
 ghost use Rattle.rule_types.specs.Finding.{finds};
@@ -46,12 +46,7 @@ impl SpaceNames {
     }
 
     /// Adds an object, and returns its number.
-    pub(crate) fn add(
-        &mut self,
-        alloc: Global,
-        kind: ObjectKind,
-        name: &[u8],
-    ) -> Result<u32, AddFault>
+    pub(crate) fn add(&mut self, kind: ObjectKind, name: &[u8]) -> Result<u32, AddFault>
         requires few { length self.old < 65_536 }
         ensures number { IfOk result (λ number. number ≡ length self.old) }
         ensures added { OnOk result (self.new ≡ and_object self.old kind name.now) }
@@ -61,7 +56,7 @@ impl SpaceNames {
         if self.contains(name) {
             return Err(AddFault::Duplicate);
         }
-        match self.add_new(alloc, kind, name) {
+        match self.add_new(kind, name) {
             Ok(number) => Ok(number),
             Err(_) => Err(AddFault::NoMemory),
         }
@@ -75,13 +70,14 @@ impl SpaceNames {
     }
 
     /// Adds an object of a new name, and returns its number.
-    fn add_new(&mut self, alloc: Global, kind: ObjectKind, name: &[u8]) -> Result<u32, NoMemory>
+    fn add_new(&mut self, kind: ObjectKind, name: &[u8]) -> Result<u32, NoMemory>
         requires few { length self.old < 65_536 }
         requires absent { is_named name.now self.old ≡ false }
         ensures number { IfOk result (λ number. number ≡ length self.old) }
         ensures added { OnOk result (self.new ≡ and_object self.old kind name.now) }
         ensures kept { OnErr result (self.new ≡ self.old) }
     {
+        let alloc = *self.objects.allocator();
         let Ok(copy) = Vec::from_slice(alloc, name) else {
             return Err(NoMemory);
         };
@@ -125,6 +121,24 @@ impl SpaceNames {
         match self.objects.get_index(number as usize) {
             Some((_, kind)) => accepts(word, *kind),
             None => false,
+        }
+    }
+
+    /// How many objects there are: at most 65,536.
+    pub(crate) fn len(&self) -> usize
+        ensures value { result ≡ length self.now }
+        ensures few { result ≤ 65_536 }
+    {
+        self.objects.len()
+    }
+
+    /// The kind of a number.
+    pub(crate) fn kind(&self, number: u32) -> Option<ObjectKind>
+        ensures { result ≡ option_map (λ held. held.kind) (slice_get self.now number) }
+    {
+        match self.objects.get_index(number as usize) {
+            Some((_, kind)) => Some(*kind),
+            None => None,
         }
     }
 

@@ -6,10 +6,11 @@ use std::test::Fail;
 #[test]
 fn finds_the_same_bytes_first(rt: HostRuntime) -> Result<(), Fail> {
     let mut index = ObjectIndex::new(rt.alloc());
-    index.add(rt.alloc(), ObjectKind::Pump, b"P1")?;
-    index.add(rt.alloc(), ObjectKind::Weir, b"p1")?;
-    let again = index.add(rt.alloc(), ObjectKind::Outlet, b"p1");
+    index.add(ObjectKind::Pump, b"P1")?;
+    index.add(ObjectKind::Weir, b"p1")?;
+    let again = index.add(ObjectKind::Outlet, b"p1");
     assert_eq!(rt; again, Err(AddFault::Duplicate));
+    assert_eq!(rt; index.count(), 2);
     let lower = ObjectNo {
         space: Space::Links,
         index: 1,
@@ -17,16 +18,17 @@ fn finds_the_same_bytes_first(rt: HostRuntime) -> Result<(), Fail> {
     let found = index.resolve(rt.alloc(), ObjectWord::Weir, b"p1");
     assert_eq!(rt; found, Ok(lower));
     assert_eq!(rt; index.name(lower), Some(b"p1".as_slice()));
+    assert_eq!(rt; index.kind(lower), Some(ObjectKind::Weir));
     Ok(())
 }
 
 #[test]
 fn finds_without_case(rt: HostRuntime) -> Result<(), Fail> {
     let mut index = ObjectIndex::new(rt.alloc());
-    index.add(rt.alloc(), ObjectKind::Conduit, b"Pa")?;
+    index.add(ObjectKind::Conduit, b"Pa")?;
     let only = index.resolve(rt.alloc(), ObjectWord::Pump, b"PA");
     assert_eq!(rt; only, Err(Unresolved::WrongKind));
-    index.add(rt.alloc(), ObjectKind::Conduit, b"pA")?;
+    index.add(ObjectKind::Conduit, b"pA")?;
     let several = index.resolve(rt.alloc(), ObjectWord::Link, b"PA");
     assert_eq!(rt; several, Err(Unresolved::Ambiguous));
     let none = index.resolve(rt.alloc(), ObjectWord::Node, b"Pa");
