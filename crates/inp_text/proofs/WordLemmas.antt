@@ -1,15 +1,14 @@
 -- What one more byte of a text does to its words.
-use Rattle.std.proofs.Common.{◌≡◌, ℕ, ◌+◌, ◌-◌, ◌<◌, ◌≤◌, inl, inr, Bool, true, false, List, [], ◌∷◌, ◌++◌, length, get_or, take, drop, All, refl, ap, sym, ◌∙◌, subst, arith, append_assoc, not, length-drop, length-take, ◌&&◌}
+use Rattle.std.proofs.Common.{◌≡◌, ℕ, ◌+◌, ◌-◌, ◌<◌, ◌≤◌, inl, inr, Bool, true, false, List, [], ◌∷◌, ◌++◌, length, get_or, take, drop, All, refl, ap, sym, ◌∙◌, arith, append_assoc, not, length-drop, length-take, ◌&&◌}
 use Rattle.std.proofs.lemmas.List.{drop_more, take_more, drop_all, map-append, get_or-drop, append-nil, drop-take, take-take}
 use Rattle.std.proofs.lemmas.List.Folds.{drop_split, list_all-append}
-use Rattle.std.proofs.lemmas.List.Elements.{All-append, All-cons, All-head, All-nil, All-tail}
+use Rattle.std.proofs.lemmas.List.Elements.{All-head, All-tail}
 use Rattle.std.proofs.Math.Nat.{eq-or-lt_of_le}
-use Rattle.std.proofs.Math.Decide.{dec_lt}
 use Rattle.std.proofs.lemmas.Bool.Decides.{nat_tests}
 use Rattle.std.proofs.lemmas.Grind.{common_steps}
 use Rattle.std.specs.Prelude.{slice_range, if◌then◌else◌, ◌==◌}
 use Rattle.std.specs.List.{list_all}
-use Rattle.inp_text.specs.Items.{is_blank, before_comment, begins_blank, onto_first, words, text_at, texts_at, with_place, IsPlace}
+use Rattle.inp_text.specs.Items.{is_blank, before_comment, begins_blank, onto_first, words, text_at, texts_at, place_between, IsPlace}
 use Rattle.inp_text.specs.declared.line.Span.{Span}
 
 -- a byte of a word
@@ -21,7 +20,6 @@ pub record IsCut (text : List ℕ) (places : List Span) (start index : ℕ) : Ty
   pub found : texts_at text places ++ words (drop start text) ≡ words text
   pub solid : list_all is_solid (slice_range text start index) ≡ true
   pub begun : start ≤ index
-  pub within : All (IsPlace (length text)) places
 
 both_true : (b c : Bool) → (not b && c) ≡ true → (b ≡ false) × (c ≡ true)
 both_true true c p = cc
@@ -62,11 +60,11 @@ words-blank byte rest blank = passed (is_blank byte) _ _ blank
 length-slice_range : (text : List ℕ) (start index : ℕ) → start ≤ index → index ≤ length text → length (slice_range text start index) ≡ index - start
 length-slice_range text start index le lt = grind (arith, common_steps)
 
-with_place-more : (places : List Span) (start index : ℕ) → start < index → with_place places start index ≡ places ++ record { start = start; end = index } ∷ []
-with_place-more places start index lt = grind (arith, nat_tests)
+pub place_between-some : (start index : ℕ) → start < index → place_between start index ≡ record { start = start; end = index } ∷ []
+place_between-some start index lt = grind (arith, nat_tests)
 
-with_place-same : (places : List Span) (start index : ℕ) → index ≤ start → with_place places start index ≡ places
-with_place-same places start index le = grind (arith, nat_tests)
+pub place_between-none : (start index : ℕ) → index ≤ start → place_between start index ≡ []
+place_between-none start index le = grind (arith, nat_tests)
 
 slice_range-more : (text : List ℕ) (start index : ℕ) → start ≤ index → index < length text → slice_range text start (index + 1) ≡ slice_range text start index ++ get_or text index 0 ∷ []
 slice_range-more text start index le lt =
@@ -86,31 +84,28 @@ solid-more run byte solid here =
     ∙ ap (λ b. b && (not (is_blank byte) && true)) solid
     ∙ ap (λ b. true && (not b && true)) here
 
+-- at the front nothing is cut
+pub IsCut-none : (text : List ℕ) → IsCut text [] 0 0
+IsCut-none text = record {
+  found = refl;
+  solid = ap (list_all is_solid) (slice_range-none text 0);
+  begun = omega arith;
+}
+
 pub IsCut-solid : (text : List ℕ) (places : List Span) (start index : ℕ) → IsCut text places start index → index < length text → is_blank (get_or text index 0) ≡ false → IsCut text places start (index + 1)
 IsCut-solid text places start index cut lt here = record {
   found = cut.found;
   solid = ap (list_all is_solid) (slice_range-more text start index cut.begun lt) ∙ solid-more (slice_range text start index) (get_or text index 0) cut.solid here;
   begun = omega arith;
-  within = cut.within;
 }
 
--- the place of the run at hand, where it has a byte or more
-abbrev run_place : ℕ → ℕ → List Span
-run_place start index = with_place [] start index
-
-with_place-append : (places : List Span) (start index : ℕ) → start ≤ index → with_place places start index ≡ places ++ run_place start index
-with_place-append places start index le = elim (eq-or-lt_of_le le) [
-  | inl same ↦ with_place-same places start index (omega arith) ∙ sym (append-nil places) ∙ ap (λ w. places ++ w) (sym (with_place-same [] start index (omega arith)))
-  | inr more ↦ with_place-more places start index more ∙ ap (λ w. places ++ w) (sym (with_place-more [] start index more))
-]
-
-words-run_place : (text : List ℕ) (start index : ℕ) → start ≤ index → index ≤ length text → list_all is_solid (slice_range text start index) ≡ true → begins_blank (drop index text) ≡ true → words (drop start text) ≡ texts_at text (run_place start index) ++ words (drop index text)
-words-run_place text start index le lt solid blank = elim (eq-or-lt_of_le le) [
-  | inl same ↦ ap (λ n. words (drop n text)) same ∙ ap (λ w. texts_at text w ++ words (drop index text)) (sym (with_place-same [] start index (omega arith)))
+words-place_between : (text : List ℕ) (start index : ℕ) → start ≤ index → index ≤ length text → list_all is_solid (slice_range text start index) ≡ true → begins_blank (drop index text) ≡ true → words (drop start text) ≡ texts_at text (place_between start index) ++ words (drop index text)
+words-place_between text start index le lt solid blank = elim (eq-or-lt_of_le le) [
+  | inl same ↦ ap (λ n. words (drop n text)) same ∙ ap (λ w. texts_at text w ++ words (drop index text)) (sym (place_between-none start index (omega arith)))
   | inr more ↦
       ap words (drop_split text start index le)
       ∙ words-word (slice_range text start index) (drop index text) (omega (arith, length-slice_range text start index le lt)) solid blank
-      ∙ ap (λ w. texts_at text w ++ words (drop index text)) (sym (with_place-more [] start index more))
+      ∙ ap (λ w. texts_at text w ++ words (drop index text)) (sym (place_between-some start index more))
 ]
 
 found-append : (text : List ℕ) (places more : List Span) (start : ℕ) (rest : List (List ℕ)) → texts_at text places ++ words (drop start text) ≡ words text → words (drop start text) ≡ texts_at text more ++ rest → texts_at text (places ++ more) ++ rest ≡ words text
@@ -120,40 +115,23 @@ found-append text places more start rest found next =
     ∙ ap (λ x. texts_at text places ++ x) (sym next)
     ∙ found
 
-IsPlace-run_place : (len start index : ℕ) → index ≤ len → All (IsPlace len) (run_place start index)
-IsPlace-run_place len start index le = elim (dec_lt start index) [
-  | yes lt ↦ subst (All (IsPlace len)) (sym (with_place-more [] start index lt)) (All-cons (IsPlace len) _ [] (record { some = lt; within = le }) (All-nil (IsPlace len)))
-  | no ge ↦ subst (All (IsPlace len)) (sym (with_place-same [] start index (omega arith))) (All-nil (IsPlace len))
-]
-
-within-append : (len : ℕ) (places : List Span) (start index : ℕ) → start ≤ index → index ≤ len → All (IsPlace len) places → All (IsPlace len) (with_place places start index)
-within-append len places start index le lt within =
-    subst (All (IsPlace len)) (sym (with_place-append places start index le))
-    (All-append (IsPlace len) places (run_place start index) within (IsPlace-run_place len start index lt))
-
-pub IsCut-blank : (text : List ℕ) (places : List Span) (start index : ℕ) → IsCut text places start index → index < length text → is_blank (get_or text index 0) ≡ true → IsCut text (with_place places start index) (index + 1) (index + 1)
+pub IsCut-blank : (text : List ℕ) (places : List Span) (start index : ℕ) → IsCut text places start index → index < length text → is_blank (get_or text index 0) ≡ true → IsCut text (places ++ place_between start index) (index + 1) (index + 1)
 IsCut-blank text places start index cut lt blank =
     let here = drop_more text index 0 lt in
-    let run = words-run_place text start index cut.begun (omega arith) cut.solid (ap begins_blank here ∙ blank) in
-    let next = run ∙ ap (λ w. texts_at text (run_place start index) ++ w) (ap words here ∙ words-blank (get_or text index 0) (drop (index + 1) text) blank) in
+    let run = words-place_between text start index cut.begun (omega arith) cut.solid (ap begins_blank here ∙ blank) in
+    let next = run ∙ ap (λ w. texts_at text (place_between start index) ++ w) (ap words here ∙ words-blank (get_or text index 0) (drop (index + 1) text) blank) in
     record {
-      found = ap (λ p. texts_at text p ++ words (drop (index + 1) text)) (with_place-append places start index cut.begun)
-          ∙ found-append text places (run_place start index) start _ cut.found next;
+      found = found-append text places (place_between start index) start _ cut.found next;
       solid = ap (list_all is_solid) (slice_range-none text (index + 1));
       begun = omega arith;
-      within = within-append (length text) places start index cut.begun (omega arith) cut.within;
     }
 
-pub texts_at-IsCut : (text : List ℕ) (places : List Span) (start : ℕ) → IsCut text places start (length text) → texts_at text (with_place places start (length text)) ≡ words text
+pub texts_at-IsCut : (text : List ℕ) (places : List Span) (start : ℕ) → IsCut text places start (length text) → texts_at text (places ++ place_between start (length text)) ≡ words text
 texts_at-IsCut text places start cut =
     let over = drop_all (length text) text (omega arith) in
-    let next = words-run_place text start (length text) cut.begun (omega arith) cut.solid (ap begins_blank over) ∙ ap (λ w. texts_at text (run_place start (length text)) ++ words w) over in
-    ap (texts_at text) (with_place-append places start (length text) cut.begun)
-    ∙ sym (append-nil (texts_at text (places ++ run_place start (length text))))
-    ∙ found-append text places (run_place start (length text)) start [] cut.found next
-
-pub within-IsCut : (text : List ℕ) (places : List Span) (start : ℕ) → IsCut text places start (length text) → All (IsPlace (length text)) (with_place places start (length text))
-within-IsCut text places start cut = within-append (length text) places start (length text) cut.begun (omega arith) cut.within
+    let next = words-place_between text start (length text) cut.begun (omega arith) cut.solid (ap begins_blank over) ∙ ap (λ w. texts_at text (place_between start (length text)) ++ words w) over in
+    sym (append-nil (texts_at text (places ++ place_between start (length text))))
+    ∙ found-append text places (place_between start (length text)) start [] cut.found next
 
 -- what is kept of a list that begins with a byte, as the byte ends the text or not
 kept : (b : Bool) (byte : ℕ) (rest text : List ℕ) → text ≡ take (length text) rest → (if b then [] else byte ∷ text) ≡ take (length (if b then [] else byte ∷ text)) (byte ∷ rest)

@@ -1,5 +1,5 @@
 -- The items of a line of an input file.
-use Rattle.std.specs.Prelude.{ℕ, ◌<◌, ◌≤◌, Bool, true, ◌||◌, ◌==◌, List, [], ◌∷◌, ◌++◌, if◌then◌else◌, map, slice_range, nat_lt}
+use Rattle.std.specs.Prelude.{◌≡◌, ℕ, ◌+◌, ◌<◌, ◌≤◌, Bool, true, false, ◌||◌, ◌==◌, List, [], ◌∷◌, ◌++◌, if◌then◌else◌, map, drop, length, slice_range, nat_lt}
 use Rattle.inp_text.specs.declared.line.Span.{Span}
 
 -- a blank between items: a space or a tab (own)
@@ -46,6 +46,30 @@ pub record IsPlace (len : ℕ) (place : Span) : Type 0 where
   pub some : place.start < place.end
   pub within : place.end ≤ len
 
--- the places, and after them the one from start to end where it holds a byte or more (own)
-abbrev pub with_place : List Span → ℕ → ℕ → List Span
-with_place places start end = if nat_lt start end then places ++ record { start = start; end = end } ∷ [] else places
+-- the place from start to end, where it holds a byte or more (own)
+abbrev pub place_between : ℕ → ℕ → List Span
+place_between start end = if nat_lt start end then record { start = start; end = end } ∷ [] else []
+
+-- the places of words, in their order, where these bytes stand at `at` and the word that they may go on with began at `start` (own)
+abbrev pub places_from : ℕ → ℕ → List ℕ → List Span
+places_from start at [] = place_between start at
+places_from start at (byte ∷ rest) =
+    if is_blank byte
+    then place_between start at ++ places_from (at + 1) (at + 1) rest
+    else places_from start (at + 1) rest
+
+-- the places of the items of a line, in their order: those of the words before the comment (own)
+unfoldable pub item_places : List ℕ → List Span
+item_places line = places_from 0 0 (before_comment line)
+
+-- no word goes over this index of a text: a blank stands there, or the text has ended (own)
+abbrev pub is_gap : List ℕ → ℕ → Bool
+is_gap text at = begins_blank (drop at text)
+
+-- a place of a text that holds a longest run of bytes that are no blanks (own)
+pub record IsLongestRun (text : List ℕ) (place : Span) : Type 0 where
+  pub some : place.start < place.end
+  pub within : place.end ≤ length text
+  pub solid : (at : ℕ) → place.start ≤ at → at < place.end → is_gap text at ≡ false
+  pub gap_before : (at : ℕ) → at + 1 ≡ place.start → is_gap text at ≡ true
+  pub gap_after : is_gap text place.end ≡ true

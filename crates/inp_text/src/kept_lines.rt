@@ -51,6 +51,11 @@ impl KeptLines {
         }
     }
 
+    /// The allocator that they were made with.
+    pub(crate) fn allocator(&self) -> Global {
+        *self.options.allocator()
+    }
+
     /// The kept lines of a section.
     pub(crate) fn of(&self, kind: SectionKind) -> &[SourceLine]
         ensures { result.now ≡ kept self.now kind }

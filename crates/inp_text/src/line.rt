@@ -1,6 +1,6 @@
 //! The items of a line.
-ghost use Rattle.std.specs.Prelude.{◌≡◌, length, IfOk, OnOk, All};
-ghost use Rattle.inp_text.specs.Items.{is_blank, before_comment, words, items as items_of, texts_at, with_place, IsPlace};
+ghost use Rattle.std.specs.Prelude.{◌≡◌, ◌++◌, length, IfOk, OnOk, All};
+ghost use Rattle.inp_text.specs.Items.{is_blank, before_comment, items as items_of, texts_at, place_between, places_from, item_places, IsPlace};
 
 use byte_edge::NoMemory;
 use std::alloc::Global;
@@ -17,6 +17,7 @@ pub struct Span {
 /// The places of the items of a line, in their order: the longest runs of bytes other than spaces and tabs, before the
 /// first semicolon (own). It takes time in proportion to the line.
 pub fn items(alloc: Global, line: &[u8]) -> Result<Vec<Span>, NoMemory>
+    ensures value { IfOk result (λ places. places.items ≡ item_places line.now) }
     ensures texts { IfOk result (λ places. texts_at line.now places.items ≡ items_of line.now) }
     ensures places { IfOk result (λ places. All (IsPlace (length line.now)) places.items) }
 {
@@ -38,8 +39,7 @@ pub(crate) fn without_comment(line: &[u8]) -> &[u8]
 
 /// The places of the words of a text.
 fn words_in(alloc: Global, text: &[u8]) -> Result<Vec<Span>, NoMemory>
-    ensures texts { IfOk result (λ places. texts_at text.now places.items ≡ words text.now) }
-    ensures places { IfOk result (λ places. All (IsPlace (length text.now)) places.items) }
+    ensures { IfOk result (λ places. places.items ≡ places_from 0 0 text.now) }
 {
     let mut places = Vec::new(alloc);
     let mut start = 0;
@@ -62,7 +62,7 @@ pub(crate) fn is_blank_byte(byte: u8) -> bool
 
 /// Notes the place from `start` to `end`, where it holds a byte or more.
 fn note_place(places: &mut Vec<Span>, start: usize, end: usize) -> Result<(), NoMemory>
-    ensures { OnOk result (places.new.items ≡ with_place places.old.items start end) }
+    ensures { OnOk result (places.new.items ≡ places.old.items ++ place_between start end) }
 {
     if start < end {
         match places.push(Span { start, end }) {

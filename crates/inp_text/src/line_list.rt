@@ -31,7 +31,7 @@ impl Model for Lines {
 }
 
 impl Lines {
-    /// No lines, which take no memory.
+    /// No lines, which take no memory; the lines that are taken later are held in memory from `alloc`.
     pub fn new(alloc: Global) -> Lines
         ensures value { result ≡ [] }
     {
@@ -41,13 +41,13 @@ impl Lines {
     }
 
     /// Takes the next line, None for one that was too long. After NoMemory the lines are as before.
-    pub fn push(&mut self, alloc: Global, line: Option<&[u8]>) -> Result<(), NoMemory>
+    pub fn push(&mut self, line: Option<&[u8]>) -> Result<(), NoMemory>
         ensures taken { OnOk result (self.new ≡ self.old ++ option_map (λ bytes. bytes.now) line.entry ∷ []) }
         ensures unchanged { OnErr result (self.new ≡ self.old) }
     {
         match line {
             Some(bytes) => {
-                let Ok(copy) = Vec::from_slice(alloc, bytes) else {
+                let Ok(copy) = Vec::from_slice(*self.lines.allocator(), bytes) else {
                     return Err(NoMemory);
                 };
                 push_line(&mut self.lines, Some(Bytes::from_vec(copy)))

@@ -24,7 +24,7 @@ pub struct Sections {
 }
 
 impl Sections {
-    /// The sections of no lines, which take no memory.
+    /// The sections of no lines, which take no memory; the lines that are kept later are held in memory from `alloc`.
     pub fn new(alloc: Global) -> Sections
         ensures stands { StandsFor result [] }
         ensures count { result.count ≡ 0 }
@@ -40,14 +40,14 @@ impl Sections {
     /// Takes the next line, None for one that was too long. A line that was too long is no heading and has no items.
     /// Headings, lines without items and lines of sections that are not read are not kept. After NoMemory the sections
     /// stand for the lines before (own). It takes time in proportion to the line.
-    pub fn push(&mut self, alloc: Global, line: Option<&[u8]>) -> Result<(), NoMemory>
+    pub fn push(&mut self, line: Option<&[u8]>) -> Result<(), NoMemory>
         requires few { self.old.count < 2 ^ 32 }
         ensures taken { OnOk result ((earlier : List Line) → StandsFor self.old earlier → StandsFor self.new (option_map (λ bytes. bytes.now) line.entry ∷ earlier)) }
         ensures unchanged { OnErr result ((earlier : List Line) → StandsFor self.old earlier → StandsFor self.new earlier) }
         ensures count { self.new.count ≡ (if is_ok result then self.old.count + 1 else self.old.count) }
     {
         match line {
-            Some(bytes) => self.push_text(alloc, bytes),
+            Some(bytes) => self.push_text(bytes),
             None => {
                 self.push_long();
                 Ok(())
@@ -72,7 +72,7 @@ impl Sections {
     }
 
     /// Takes a line of bytes.
-    fn push_text(&mut self, alloc: Global, line: &[u8]) -> Result<(), NoMemory>
+    fn push_text(&mut self, line: &[u8]) -> Result<(), NoMemory>
         requires few { self.old.count < 2 ^ 32 }
         ensures taken { OnOk result ((earlier : List Line) → StandsFor self.old earlier → StandsFor self.new (Some line.now ∷ earlier)) }
         ensures unchanged { OnErr result ((earlier : List Line) → StandsFor self.old earlier → StandsFor self.new earlier) }
@@ -89,7 +89,7 @@ impl Sections {
             return Ok(());
         }
         match self.section {
-            Some(kind) => self.keep(alloc, kind, line),
+            Some(kind) => self.keep(kind, line),
             None => {
                 self.count += 1;
                 Ok(())
@@ -98,7 +98,7 @@ impl Sections {
     }
 
     /// Takes a line that its section keeps.
-    fn keep(&mut self, alloc: Global, kind: SectionKind, line: &[u8]) -> Result<(), NoMemory>
+    fn keep(&mut self, kind: SectionKind, line: &[u8]) -> Result<(), NoMemory>
         requires few { self.old.count < 2 ^ 32 }
         ensures gained { OnOk result (Gains self.old.kept self.new.kept kind (record { number = self.old.count + 1; bytes = line.now })) }
         ensures stays { OnErr result (Stays self.old.kept self.new.kept) }
@@ -106,7 +106,7 @@ impl Sections {
         ensures section { self.new.section ≡ self.old.section }
         ensures first_long { self.new.first_long ≡ self.old.first_long }
     {
-        let Ok(copy) = Vec::from_slice(alloc, line) else {
+        let Ok(copy) = Vec::from_slice(self.kept.allocator(), line) else {
             return Err(NoMemory);
         };
         let number = self.count + 1;

@@ -15,23 +15,31 @@ fn cuts_a_line(rt: HostRuntime) -> Result<(), Fail> {
 }
 
 #[test]
+fn cuts_a_line_without_control_bytes(rt: HostRuntime) -> Result<(), Fail> {
+    let Ok(places) = tokens(rt.alloc(), b"P1\tP1 ;\x01 P1") else {
+        return Err(Fail::from("a control byte in the comment"));
+    };
+    let expected = [Span { start: 0, end: 2 }, Span { start: 3, end: 5 }];
+    assert_eq!(rt; places.as_slice(), expected.as_slice());
+    Ok(())
+}
+
+#[test]
 fn tells_a_control_byte(rt: HostRuntime) -> Result<(), Fail> {
     let told = tokens(rt.alloc(), b"P1\x01 N1");
     assert!(rt; matches!(told, Err(TextFault::BadText(2))));
-    let told = tokens(rt.alloc(), b"P1;\x01");
-    assert!(rt; matches!(told, Ok(_)));
     Ok(())
 }
 
 #[test]
 fn keeps_the_lines_of_sections(rt: HostRuntime) -> Result<(), Fail> {
     let mut sections = Sections::new(rt.alloc());
-    sections.push(rt.alloc(), Some(b"[junctions]"))?;
-    sections.push(rt.alloc(), None)?;
-    sections.push(rt.alloc(), Some(b"; none"))?;
-    sections.push(rt.alloc(), Some(b"N1 5"))?;
-    sections.push(rt.alloc(), Some(b"[TITLE]"))?;
-    sections.push(rt.alloc(), Some(b"N2"))?;
+    sections.push(Some(b"[junctions]"))?;
+    sections.push(None)?;
+    sections.push(Some(b"; none"))?;
+    sections.push(Some(b"N1 5"))?;
+    sections.push(Some(b"[TITLE]"))?;
+    sections.push(Some(b"N2"))?;
     let lines = sections.lines(SectionKind::Junctions);
     assert_eq!(rt; lines.len(), 1);
     assert_eq!(rt; lines[0].number, 4);
@@ -43,9 +51,12 @@ fn keeps_the_lines_of_sections(rt: HostRuntime) -> Result<(), Fail> {
 #[test]
 fn lists_lines(rt: HostRuntime) -> Result<(), Fail> {
     let mut lines = Lines::new(rt.alloc());
-    lines.push(rt.alloc(), Some(b"a"))?;
-    lines.push(rt.alloc(), None)?;
-    assert!(rt; matches!(lines.get(0), Some(LineText::Text(_))));
+    lines.push(Some(b"a 1"))?;
+    lines.push(None)?;
+    let Some(LineText::Text(bytes)) = lines.get(0) else {
+        return Err(Fail::from("the first line"));
+    };
+    assert_eq!(rt; bytes, b"a 1".as_slice());
     assert!(rt; matches!(lines.get(1), Some(LineText::Long)));
     assert!(rt; matches!(lines.get(2), None));
     Ok(())

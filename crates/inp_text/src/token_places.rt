@@ -1,6 +1,6 @@
 //! The items of a line that has no control bytes.
 ghost use Rattle.std.specs.Prelude.{◌≡◌, None, drop, length, IfOk, OnOk, IfErr, All};
-ghost use Rattle.inp_text.specs.Items.{items as items_of, texts_at, IsPlace};
+ghost use Rattle.inp_text.specs.Items.{items as items_of, texts_at, item_places, IsPlace};
 ghost use Rattle.inp_text.specs.Control.{is_control, control_from, first_control as control_of, TellsControl};
 
 use crate::fault::TextFault;
@@ -11,6 +11,7 @@ use std::alloc::Global;
 /// 127, stands before the first semicolon, with the place of the first; it goes before want of memory (own). It takes
 /// time in proportion to the line.
 pub fn tokens(alloc: Global, line: &[u8]) -> Result<Vec<Span>, TextFault>
+    ensures value { IfOk result (λ places. places.items ≡ item_places line.now) }
     ensures texts { IfOk result (λ places. texts_at line.now places.items ≡ items_of line.now) }
     ensures places { IfOk result (λ places. All (IsPlace (length line.now)) places.items) }
     ensures good { OnOk result (control_of line.now ≡ None) }

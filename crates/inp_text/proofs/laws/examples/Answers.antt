@@ -1,10 +1,14 @@
 use Rattle.std.proofs.Common.{refl}
+use Rattle.inp_text.specs.Items.{item_places}
 use Rattle.inp_text.specs.Headings.{heads, section_named}
 use Rattle.inp_text.proofs.laws.examples.Goals as goal
 
 pub returns : goal.returns
-unfolding heads section_named
+unfolding heads section_named item_places
 returns c = record {
+  equal_items = refl;
+  item_in_comment = refl;
+  only_blanks = refl;
   capitals = refl;
   small_letters = refl;
   first_letters = refl;
@@ -24,5 +28,10 @@ returns c = record {
   again = refl;
   junction_lines = refl;
   pump_lines = refl;
+  none_above = refl;
+  unread_above = refl;
+  nearest_above = refl;
+  of_junctions = refl;
+  of_pumps = refl;
   long_at_6 = refl;
 }
