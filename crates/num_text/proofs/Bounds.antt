@@ -14,7 +14,7 @@ use Rattle.num_text.specs.Fields.{is_end}
 use Rattle.num_text.specs.Numbers.{signed, scaled, bounded, in_bounds, significand, end_zeros}
 use Rattle.num_text.specs.Stands.{IsHeld}
 use Rattle.num_text.proofs.Digits.{ten_pos}
-use Rattle.num_text.proofs.Fits.{large-ratio}
+use Rattle.exact_fraction.proofs.Cited.{lowest_terms-overflows}
 
 -- the size of a number with a sign
 pub size-signed : (negative : Bool) (size : ℕ) → unsigned_abs (signed negative size) ≡ size
@@ -76,13 +76,13 @@ pub large-down : (negative : Bool) (size power : ℕ) → power ≤ 18 → 10 ^ 
 large-down negative size power few large =
     let most : 10 ^ power ≤ 10 ^ 18 = pow-le-pow_right (lit≤ tt) few in
     let is = size-signed negative size in
-    large-ratio (signed negative size) (10 ^ power) (ten_pos power) (omega arith)
+    lowest_terms-overflows (signed negative size) (10 ^ power) (ten_pos power) (omega arith)
 
 pub large-up : (negative : Bool) (size power : ℕ) → 2 ^ 63 ≤ size → fits (ratio (signed negative (size * 10 ^ power)) 1) ≡ false
 large-up negative size power large =
     let grown = le-mul_of_pos_right size (ten_pos power) in
     let is = size-signed negative (size * 10 ^ power) in
-    large-ratio (signed negative (size * 10 ^ power)) 1 (omega arith) (omega arith)
+    lowest_terms-overflows (signed negative (size * 10 ^ power)) 1 (omega arith) (omega arith)
 
 pub in_bounds-false : (q : Rational) → fits q ≡ false → in_bounds q ≡ Err TooLarge
 in_bounds-false q out = rw out refl

@@ -5,10 +5,13 @@ pub mod Places
 pub mod Cuts
 pub mod RoundTrips
 pub mod Fits
-pub mod Hours
+pub mod UpTo
+pub mod Within
+pub mod Numerals
 pub mod Zeros
 pub mod Bounds
 pub mod WrittenDecimals
 pub mod ValueTrips
 pub mod June
 pub mod Tens
+pub mod Cited

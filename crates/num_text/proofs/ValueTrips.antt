@@ -15,7 +15,7 @@ use Rattle.exact_fraction.specs.Checked.{made, fitting}
 use Rattle.exact_fraction.proofs.Cited.{lowest_terms-positive, lowest_terms-itself, lowest_terms-of_same}
 use Rattle.std.proofs.Math.IntN.{negsuc-*ℤ-pos}
 use Rattle.num_text.specs.Fields.{field, past}
-use Rattle.num_text.specs.Times.{decimals}
+use Rattle.num_text.specs.Pointed.{decimals}
 use Rattle.num_text.specs.Numbers.{without_end_zeros, is_negative, signed}
 use Rattle.num_text.specs.Written.{places}
 use Rattle.num_text.specs.Values.{written_sign, written_behind, written_units, written_size, written_value, past_minus, with_decimals, spelled_value}
@@ -26,7 +26,7 @@ use Rattle.num_text.proofs.Zeros.{value_scaled, length-without}
 use Rattle.num_text.proofs.WrittenDecimals.{held-small, length-decimal}
 
 -- ---- what decimal digits are read as
-all_ascii : (digits : List ℕ) → AllDigits 10 digits → list_all is_ascii_digit digits ≡ true
+pub all_ascii : (digits : List ℕ) → AllDigits 10 digits → list_all is_ascii_digit digits ≡ true
 all_ascii [] e = refl
 all_ascii (digit ∷ digits) e =
     let range = digit_from_value digit e.0 in

@@ -13,7 +13,8 @@ unfoldable pub seconds_part : List ℕ → Option ℕ
 seconds_part [] = Some 0
 seconds_part (byte ∷ bytes) = past 58 (byte ∷ bytes) >>= λ behind. last_number (sixtieth behind)
 
--- the seconds of `h:mm` or `h:mm:ss`, with at most `most` digits of hours (SWMM 5.2 manual, times of the input file)
+-- the seconds of `h:mm` or `h:mm:ss`, with one to `most` digits of hours (own; the forms are those of the SWMM 5.2 manual,
+-- times of the input file)
 unfoldable pub clock : ℕ → List ℕ → Option ℕ
 clock most text = do
   hours ← field 1 most text

@@ -22,7 +22,7 @@ pub record Dated : Type 0 where
   pub rest : List ℕ
 
 -- the day that a text begins with as month, day and year, with a separator between: one or two digits, one or two and four
--- (SWMM 5.2 manual, dates of the input file)
+-- (own; the form is that of the SWMM 5.2 manual, dates of the input file)
 unfoldable pub month_day_year : ℕ → List ℕ → Option Dated
 month_day_year separator text = do
   month ← field 1 2 text
@@ -33,7 +33,7 @@ month_day_year separator text = do
   number ← day_number year.number month.number day.number
   Some (record { day = number; rest = year.rest })
 
--- the same as year, month and day with hyphens: four digits, two and two (ISO 8601)
+-- the same as year, month and day with hyphens: four digits, two and two (own; the form is that of ISO 8601)
 unfoldable pub year_month_day : List ℕ → Option Dated
 year_month_day text = do
   year ← field 4 4 text
@@ -48,7 +48,8 @@ year_month_day text = do
 abbrev pub last_day : Option Dated → Option ℤ
 last_day found = found >>= λ dated. if is_end dated.rest then Some dated.day else None
 
--- the day number of a date: month, day and year with slashes between, or with hyphens (SWMM 5.2 manual, dates of the input file)
+-- the day number of a date: month, day and year with slashes between, or with hyphens (own; the form is that of the SWMM 5.2
+-- manual, dates of the input file)
 abbrev pub date_of : List ℕ → Option ℤ
 date_of text = option_or (last_day (month_day_year 47 text)) (last_day (month_day_year 45 text))
 
@@ -56,7 +57,8 @@ date_of text = option_or (last_day (month_day_year 47 text)) (last_day (month_da
 abbrev pub place_in_year : ℕ → ℕ → Option ℕ
 place_in_year month day = if is_day 2001 month day then Some (day_of_year (pos 2001) month day) else None
 
--- month and day with a slash between, as a place in a year of 365 days (SWMM 5.2 manual, control rules)
+-- month and day with a slash between, as a place in a year of 365 days (own; the form is that of the SWMM 5.2 manual, control
+-- rules)
 unfoldable pub month_and_day : List ℕ → Option ℕ
 month_and_day text = do
   month ← field 1 2 text
@@ -64,12 +66,12 @@ month_and_day text = do
   day ← last_number (field 1 2 behind_month)
   place_in_year month.number day
 
--- one to three digits, from 1 to 366 (SWMM 5.2 manual, control rules)
+-- one to three digits, from 1 to 366 (own; the form is that of the SWMM 5.2 manual, control rules)
 unfoldable pub day_by_number : List ℕ → Option ℕ
 day_by_number text = do
   day ← last_number (field 1 3 text)
   if nat_le 1 day && nat_le day 366 then Some day else None
 
--- the day of the year that a text writes in one of these two forms (SWMM 5.2 manual, control rules)
+-- the day of the year that a text writes in one of these two forms (own)
 abbrev pub day_of_year_of : List ℕ → Option ℕ
 day_of_year_of text = option_or (month_and_day text) (day_by_number text)

@@ -3,7 +3,10 @@ pub mod Dates
 pub mod Clocks
 pub mod Views
 pub mod Written
+pub mod Pointed
 pub mod Times
+pub mod Steps
+pub mod Counts
 pub mod Numbers
 pub mod Values
 pub mod Stands

@@ -4,7 +4,7 @@ use Rattle.exact_fraction.specs.Number.{Rational, den}
 use Rattle.std.specs.Str.Parse.{digits_value}
 use Rattle.exact_fraction.specs.Checked.{made}
 use Rattle.num_text.specs.Fields.{◌>>=◌, field, last_number, past}
-use Rattle.num_text.specs.Times.{decimals}
+use Rattle.num_text.specs.Pointed.{decimals}
 use Rattle.num_text.specs.Numbers.{without_end_zeros, is_negative, signed}
 use Rattle.num_text.specs.Written.{places}
 

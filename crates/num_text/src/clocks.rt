@@ -1,9 +1,30 @@
 //! Times of the clock.
-ghost use Rattle.std.specs.Prelude.{◌≡◌, ◌<◌, ◌≤◌, IfSome};
+ghost use Rattle.std.specs.Prelude.{◌≡◌, ◌*◌, ◌<◌, ◌≤◌, ◌^◌, IfSome};
 ghost use Rattle.num_text.specs.Fields.{last_number};
 ghost use Rattle.num_text.specs.Clocks.{sixtieth, seconds_part, clock, clock_below};
 
 use crate::fields::{Field, past};
+
+/// The seconds of a day.
+pub(crate) const DAY: u64 = 86_400;
+
+/// The seconds of `h:mm` or `h:mm:ss`: one to seven digits of hours, and minutes and seconds of one or two digits below 60 (own;
+/// the forms are those of the SWMM 5.2 manual, [OPTIONS]). None exactly where the text is anything else.
+pub fn read_clock(text: &[u8]) -> Option<u64>
+    ensures value { result ≡ clock 7 text.now }
+    ensures bound { IfSome result (λ second. second < 36_000_000_000) }
+{
+    clock(text, 7)
+}
+
+/// The seconds since midnight of a time of day below 24 hours, in the forms that `read_clock` reads (own; the forms are those of
+/// the SWMM 5.2 manual, [OPTIONS]). None exactly where the text is anything else.
+pub fn read_day_time(text: &[u8]) -> Option<u64>
+    ensures value { result ≡ clock_below 7 86_400 text.now }
+    ensures bound { IfSome result (λ second. second < 86_400) }
+{
+    clock_below(text, 7, DAY)
+}
 
 /// The seconds of `h:mm` or `h:mm:ss`, of at most `most` digits of hours, where they are below `limit`.
 pub(crate) fn clock_below(text: &[u8], most: usize, limit: u64) -> Option<u64>
@@ -23,6 +44,7 @@ pub(crate) fn clock_below(text: &[u8], most: usize, limit: u64) -> Option<u64>
 fn clock(text: &[u8], most: usize) -> Option<u64>
     requires seven { most ≤ 7 }
     ensures value { result ≡ clock most text.now }
+    ensures bound { IfSome result (λ second. second < 3_600 * 10 ^ most) }
 {
     let hours = Field::read(text, 1, most)?;
     let behind_hours = past(b':', hours.rest)?;

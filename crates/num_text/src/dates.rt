@@ -8,8 +8,8 @@ use crate::fields::{Field, last_number, past};
 use jiff::civil::Date;
 
 /// The day number of a date, 0 for 1970-01-01: month, day and year of one or two, one or two and four digits, with `/` or with
-/// `-` between them (SWMM 5.2 manual, dates of the input file). None exactly where the text is anything else, or the
-/// calendar has no such day in a year from 1 to 9999.
+/// `-` between them (own; the form is that of the SWMM 5.2 manual, dates of the input file). None exactly where the text is
+/// anything else, or the calendar has no such day in a year from 1 to 9999.
 pub fn read_date(text: &[u8]) -> Option<i32>
     ensures value { result ≡ date_of text.now }
     ensures low { IfSome result (λ day. neg_ℤ (pos 719_162) ≤ℤ day) }
@@ -22,7 +22,8 @@ pub fn read_date(text: &[u8]) -> Option<i32>
 }
 
 /// The place of a day in a year, from 1: `month/day` of one or two digits each, counted in a year of 365 days, or one to three
-/// digits from 1 to 366 (SWMM 5.2 manual, control rules). None exactly where the text is anything else.
+/// digits from 1 to 366 (own; the forms are those of the SWMM 5.2 manual, control rules). None exactly where the text is anything
+/// else.
 pub fn read_day_of_year(text: &[u8]) -> Option<u16>
     ensures value { result ≡ day_of_year_of text.now }
 {

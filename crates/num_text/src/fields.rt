@@ -46,19 +46,18 @@ pub(crate) fn number_of(digits: &[u8]) -> u64
 
 /// The number that digits write. None where it is more than `most`.
 pub(crate) fn number_up_to(digits: &[u8], most: u64) -> Option<u64>
-    requires bound { most ≤ 10 ^ 18 }
     requires digits_alone { IsTrue (list_all is_ascii_digit digits.now) }
     ensures value { result
         ≡ (if nat_le (digits_value 10 digits.now) most then Some (digits_value 10 digits.now) else None) }
 {
-    let mut number: u64 = 0;
+    let mut number: u128 = 0;
     for digit in digits {
-        number = number * 10 + (*digit - b'0') as u64;
-        if number > most {
+        number = number * 10 + (*digit - b'0') as u128;
+        if number > most as u128 {
             return None;
         }
     }
-    Some(number)
+    Some(number as u64)
 }
 
 /// A number at the head of a text, and what stands behind it.

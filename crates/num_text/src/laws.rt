@@ -1,16 +1,18 @@
 //! Laws of the readings and writings. Each function here does nothing: its contract states laws for the proofs of the crates
 //! above.
-ghost use Rattle.std.specs.Prelude.{◌≡◌, ℕ, ◌<◌, ◌≤◌, ◌*◌, ◌%◌, ◌⊎◌, ◌^◌, Bool, List, codes, ℤ, pos, negsuc, Some, None, Ok, Err, length, IsTrue};
+ghost use Rattle.std.specs.Prelude.{◌≡◌, ℕ, ◌<◌, ◌≤◌, ◌*◌, ◌%◌, ◌⊎◌, ◌^◌, Bool, List, codes, ℤ, pos, negsuc, Some, None, Ok, Err, length, decimal, IsTrue};
 ghost use Rattle.std.specs.List.{list_all};
 ghost use Rattle.std.specs.Char.{is_ascii_digit};
 ghost use Rattle.std.specs.Str.Parse.{digits_value};
 ghost use Rattle.exact_fraction.specs.Moments.{IsMoment, first_second, last_second};
 ghost use Rattle.exact_fraction.specs.Number.{Rational, whole, zero, IsNumber};
 ghost use Rattle.num_text.specs.declared.error.NumberFault.TheVariants.{BadNumber, TooLarge};
-ghost use Rattle.num_text.specs.Clocks.{moment_of};
+ghost use Rattle.num_text.specs.Clocks.{clock, clock_below, moment_of};
+ghost use Rattle.num_text.specs.Counts.{count_of};
 ghost use Rattle.num_text.specs.Dates.{date_of, day_of_year_of};
 ghost use Rattle.num_text.specs.Numbers.{number_of, significand, end_zeros};
-ghost use Rattle.num_text.specs.Times.{time_of};
+ghost use Rattle.num_text.specs.Steps.{IsReadStep, step_of, routing_step_of};
+ghost use Rattle.num_text.specs.Times.{IsReadHours, IsReadTime, hours_in_digits, time_of};
 ghost use Rattle.num_text.specs.Values.{written_value, spelled_value};
 ghost use Rattle.num_text.specs.Written.{written_moment};
 
@@ -28,6 +30,21 @@ pub fn significands()
         → digits_value 10 digits ≡ significand digits * 10 ^ end_zeros digits }
     ensures least { (digits : List ℕ) → IsTrue (list_all is_ascii_digit digits)
         → (significand digits ≡ 0) ⊎ (significand digits % 10 ≡ 0 → ⊥) }
+{}
+
+/// What is read as a time value, as hours and as a step (own).
+pub fn readings()
+    ensures time { (text : List ℕ) (q : Rational) → time_of text ≡ Some q → IsReadTime q }
+    ensures hours { (text : List ℕ) (q : Rational) → hours_in_digits text ≡ Some q → IsReadHours q }
+    ensures step { (text : List ℕ) (q : Rational) → step_of text ≡ Some q → IsReadStep q }
+    ensures routing_step { (text : List ℕ) (q : Rational) → routing_step_of text ≡ Some q → IsReadStep q }
+{}
+
+/// A count is read from the decimal digits that are written of it, and from no other text (own).
+pub fn counts()
+    ensures back { (n : ℕ) → n < 2 ^ 64 → count_of (decimal n) ≡ Some n }
+    ensures written { (text : List ℕ) (n : ℕ) → count_of text ≡ Some n → text ≡ decimal n }
+    ensures below { (text : List ℕ) (n : ℕ) → count_of text ≡ Some n → n < 2 ^ 64 }
 {}
 
 /// Worked examples of numbers, as the definitions compute them (own).
@@ -89,4 +106,65 @@ pub fn day_examples()
     ensures written { written_moment (pos 992590200) ≡ codes "2001-06-15T07:30:00" }
     ensures first { written_moment first_second ≡ codes "0001-01-01T00:00:00" }
     ensures last { written_moment last_second ≡ codes "9999-12-31T23:59:59" }
+{}
+
+/// Worked examples of times of the clock, in seconds (own).
+#[tactic(auto, unfolding(crate::specs::Fields::leading_digits, crate::specs::Fields::past_digits, crate::specs::Fields::field, crate::specs::Fields::field_below, crate::specs::Clocks::seconds_part, crate::specs::Clocks::clock))]
+pub fn clock_examples()
+    ensures minutes { clock 7 (codes "0:15") ≡ Some 900 }
+    ensures seconds { clock 7 (codes "01:2:3") ≡ Some 3_723 }
+    ensures longest { clock 7 (codes "9999999:59:59") ≡ Some 35_999_999_999 }
+    ensures eight_digits { clock 7 (codes "00000001:00") ≡ None }
+    ensures minute_60 { clock 7 (codes "0:60") ≡ None }
+    ensures second_60 { clock 7 (codes "0:00:60") ≡ None }
+    ensures hours_alone { clock 7 (codes "15") ≡ None }
+    ensures no_hours { clock 7 (codes ":15") ≡ None }
+    ensures colon_last { clock 7 (codes "1:15:") ≡ None }
+    ensures four_parts { clock 7 (codes "1:15:00:00") ≡ None }
+    ensures last_of_day { clock_below 7 86_400 (codes "23:59:59") ≡ Some 86_399 }
+    ensures hour_24 { clock_below 7 86_400 (codes "24:00") ≡ None }
+{}
+
+/// Worked examples of hours and of steps (own).
+#[tactic(auto, unfolding(crate::specs::Fields::leading_digits, crate::specs::Fields::past_digits, crate::specs::Fields::field, crate::specs::Fields::field_below, crate::specs::Clocks::seconds_part, crate::specs::Clocks::clock, crate::specs::Pointed::decimals, crate::specs::Pointed::decimal_up_to, crate::specs::Steps::step_of, crate::specs::Steps::routing_step_of, exact_fraction::specs::Number::ratio, exact_fraction::specs::Number::gcd, exact_fraction::specs::Number::last_remainder, exact_fraction::specs::Number::cancelled, exact_fraction::specs::Number::den, exact_fraction::specs::Number::whole, exact_fraction::specs::Order::less))]
+pub fn step_examples()
+    ensures hours { hours_in_digits (codes "1.50") ≡ Some (record { num = pos 3; below = 1 }) }
+    ensures no_hours { hours_in_digits (codes "0") ≡ Some zero }
+    ensures most_hours { hours_in_digits (codes "1000000.000000000") ≡ Some (whole (pos 1_000_000)) }
+    ensures past_a_million { hours_in_digits (codes "1000000.000000001") ≡ None }
+    ensures hours_by_clock { hours_in_digits (codes "1:30") ≡ None }
+    ensures half { step_of (codes "0.5") ≡ Some (record { num = pos 1; below = 1 }) }
+    ensures least { step_of (codes "0.000000001") ≡ Some (record { num = pos 1; below = 999_999_999 }) }
+    ensures most { step_of (codes "86400.0") ≡ Some (whole (pos 86_400)) }
+    ensures past_a_day { step_of (codes "86400.1") ≡ None }
+    ensures nothing { step_of (codes "0") ≡ None }
+    ensures nothing_again { step_of (codes "0.000000000") ≡ None }
+    ensures ten_decimals { step_of (codes "0.0000000010") ≡ None }
+    ensures point_last { step_of (codes "1.") ≡ None }
+    ensures point_first { step_of (codes ".5") ≡ None }
+    ensures power { step_of (codes "1e2") ≡ None }
+    ensures plus { step_of (codes "+1") ≡ None }
+    ensures empty { step_of (codes "") ≡ None }
+    ensures step_by_clock { step_of (codes "0:30") ≡ None }
+    ensures routing { routing_step_of (codes "1.5") ≡ Some (record { num = pos 3; below = 1 }) }
+    ensures by_clock { routing_step_of (codes "0:00:30") ≡ Some (whole (pos 30)) }
+    ensures day { routing_step_of (codes "24:00") ≡ Some (whole (pos 86_400)) }
+    ensures past_the_day { routing_step_of (codes "24:00:01") ≡ None }
+    ensures nothing_by_clock { routing_step_of (codes "0:00:00") ≡ None }
+{}
+
+/// Worked examples of counts (own).
+#[tactic(auto, unfolding(crate::specs::Fields::leading_digits, crate::specs::Fields::past_digits, crate::specs::Counts::count_of))]
+pub fn count_examples()
+    ensures nothing { count_of (codes "0") ≡ Some 0 }
+    ensures hundred { count_of (codes "100") ≡ Some 100 }
+    ensures largest { count_of (codes "18446744073709551615") ≡ Some 18_446_744_073_709_551_615 }
+    ensures too_large { count_of (codes "18446744073709551616") ≡ None }
+    ensures long { count_of (codes "100000000000000000000") ≡ None }
+    ensures padded { count_of (codes "01") ≡ None }
+    ensures zeros { count_of (codes "00") ≡ None }
+    ensures plus { count_of (codes "+1") ≡ None }
+    ensures minus { count_of (codes "-1") ≡ None }
+    ensures point { count_of (codes "1.0") ≡ None }
+    ensures empty { count_of (codes "") ≡ None }
 {}

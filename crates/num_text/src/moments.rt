@@ -5,15 +5,12 @@ ghost use Rattle.std.specs.Option.{option_map};
 ghost use Rattle.num_text.specs.Clocks.{moment_day, past_gap, seconds_at, moment_of};
 ghost use Rattle.num_text.specs.Views.{dated_now};
 
-use crate::clocks::clock_below;
+use crate::clocks::{DAY, clock_below};
 use crate::dates::{Dated, month_day_year, year_month_day};
 use crate::fields::past;
 use crate::short_text::ShortText;
 use exact_fraction::moment::Moment;
 use jiff_core::civil::Date as PlainDate;
-
-/// The seconds of a day.
-const DAY: u64 = 86_400;
 
 /// A moment: `YYYY-MM-DD`, or month, day and year with slashes; a `T` or a space; and `h:mm` or `h:mm:ss` below 24 hours (own).
 /// None exactly where the text is anything else, or the calendar has no such day in a year from 1 to 9999.

@@ -9,7 +9,7 @@ ghost use Rattle.num_text.specs.Values.{past_minus, with_decimals, spelled_behin
 
 use crate::fields::{Field, last_number, number_of, past};
 use crate::numbers::{is_negative, signed};
-use crate::times::decimals;
+use crate::pointed::decimals;
 use exact_fraction::frac::Frac;
 
 /// The number that the text spells as a decimal or as a fraction, with zeros too many or without. None where it spells none.

@@ -1,9 +1,12 @@
 //! Values that were worked out by hand.
+use crate::clocks::{read_clock, read_day_time};
+use crate::counts::read_count;
 use crate::dates::{read_date, read_day_of_year};
 use crate::error::NumberFault;
 use crate::moments::{moment_text, read_moment};
 use crate::numbers::read_number;
-use crate::times::read_time;
+use crate::steps::{read_routing_step, read_step};
+use crate::times::{read_hours, read_time};
 use crate::values::{read_value, value_text};
 use exact_fraction::frac::Frac;
 use exact_fraction::moment::Moment;
@@ -28,6 +31,20 @@ fn reads_days(rt: HostRuntime) {
     assert!(rt; read_date(b"2-29-2001").is_none());
     assert!(rt; read_day_of_year(b"12/31") == Some(365));
     assert!(rt; read_day_of_year(b"367").is_none());
+}
+
+#[test]
+fn reads_steps_and_counts(rt: HostRuntime) {
+    assert!(rt; read_clock(b"25:01:02") == Some(90_062));
+    assert!(rt; read_day_time(b"25:01:02").is_none());
+    assert!(rt; read_day_time(b"7:30") == Some(27_000));
+    assert!(rt; read_hours(b"0.25") == Frac::make(1, 4));
+    assert!(rt; read_step(b"0.25") == Frac::make(1, 4));
+    assert!(rt; read_step(b"0:30").is_none());
+    assert!(rt; read_routing_step(b"0:00:30") == Frac::make(30, 1));
+    assert!(rt; read_routing_step(b"0.0").is_none());
+    assert!(rt; read_count(b"18446744073709551615") == Some(u64::MAX));
+    assert!(rt; read_count(b"007").is_none());
 }
 
 #[test]

@@ -1,8 +1,8 @@
-use Rattle.num_text.proofs.Tens.{significand_is}
+use Rattle.num_text.proofs.Cited.{significands-value, significands-least}
 use Rattle.num_text.proofs.laws.significands.Goals as goal
 
 pub returns-clause-value : goal.returns-clause-value
-returns-clause-value c = λ digits e. (significand_is digits e).0
+returns-clause-value c = significands-value
 
 pub returns-clause-least : goal.returns-clause-least
-returns-clause-least c = λ digits e. (significand_is digits e).1
+returns-clause-least c = significands-least
