@@ -8,7 +8,7 @@ use Rattle.jiff_core.specs.Calendar.{day_of_year, day_count, days_from_civil, Is
 use Rattle.jiff_core.proofs.SignedLemmas.{signed_arith}
 use Rattle.jiff_core.proofs.MarchLemmas.{day_count-early}
 use Rattle.jiff_core.proofs.CalendarLemmas.{days_from_civil-day_count, day_count-day_of_year, day_of_year_bound, day_count-next_year, day_count-lt_month, day_count-day, days_in_month_bounds}
-use Rattle.rule_meaning.specs.Clock.{month_start, year_of, last_begun, month_of, year_day_of, IsClockDate}
+use Rattle.rule_meaning.specs.Clock.{month_start, year_of, last_begun, month_of, year_day_of, IsClockDate, near_year}
 
 near_low : (days : ℕ) → days_through (400 * days / 146097) ≤ days
 near_low days = omega arith
@@ -51,6 +51,7 @@ days_back day days e =
     rw same refl
 
 year_start : (n : ℕ) → month_start (suc n) 1 ≡ pos (days_through n) -ℤ pos 719162
+unfolding month_start
 year_start n =
     let number = days_from_civil-day_count (pos (suc n)) 1 1 in
     let first = first_day n in
@@ -83,6 +84,7 @@ year_by day days a y some low high near_low near_high e =
     ]
 
 year_known : (n m d : ℕ) → IsCivilDate (pos (suc n)) m d → year_of (days_from_civil (pos (suc n)) m d) ≡ suc n
+unfolding year_of near_year
 year_known n m d civil =
     let days : ℕ = day_count (pos (suc n)) m d - 3652791 in
     let c = counted n m d civil in
@@ -91,6 +93,7 @@ year_known n m d civil =
 
 -- months
 begun : (y m d k : ℕ) → IsCivilDate (pos y) m d → 1 ≤ k → k ≤ m → month_start y k ≤ℤ days_from_civil (pos y) m d
+unfolding month_start
 begun y m d k civil some h =
     let one = days_from_civil-day_count (pos y) m d in
     let two = days_from_civil-day_count (pos y) k 1 in
@@ -109,6 +112,7 @@ begun y m d k civil some h =
     ]
 
 not_begun : (y m d k : ℕ) → IsCivilDate (pos y) m d → m < k → days_from_civil (pos y) m d <ℤ month_start y k
+unfolding month_start
 not_begun y m d k civil h =
     let one = days_from_civil-day_count (pos y) m d in
     let two = days_from_civil-day_count (pos y) k 1 in
@@ -116,6 +120,7 @@ not_begun y m d k civil h =
     omega (arith, signed_arith)
 
 last_is : (y m d n : ℕ) → IsCivilDate (pos y) m d → m ≤ n → last_begun (days_from_civil (pos y) m d) y n ≡ m
+unfolding last_begun
 last_is y m d zero civil h = let some : 1 ≤ m = civil.1.0 in absurd (omega arith)
 last_is y m d (suc n) civil h = elim (cases_lt m (suc n)) [
   | inl less ↦ rw (int_lt-true (days_from_civil (pos y) m d) (month_start y (suc n)) (not_begun y m d (suc n) civil less)) (last_is y m d n civil (omega arith))
@@ -123,9 +128,11 @@ last_is y m d (suc n) civil h = elim (cases_lt m (suc n)) [
 ]
 
 month_known : (n m d : ℕ) → IsCivilDate (pos (suc n)) m d → month_of (days_from_civil (pos (suc n)) m d) ≡ m
+unfolding month_of
 month_known n m d civil = rw (year_known n m d civil) (last_is (suc n) m d 12 civil civil.1.1)
 
 place_known : (n m d : ℕ) → IsCivilDate (pos (suc n)) m d → year_day_of (days_from_civil (pos (suc n)) m d) ≡ pos (day_of_year (pos (suc n)) m d)
+unfolding year_day_of month_start
 place_known n m d civil =
     let one = days_from_civil-day_count (pos (suc n)) m d in
     let two = days_from_civil-day_count (pos (suc n)) 1 1 in

@@ -10,7 +10,7 @@ use Rattle.rule_types.specs.declared.state.State.{State}
 use Rattle.rule_types.specs.Tables.{TableSet}
 use Rattle.rule_meaning.specs.Settled.{IsIn}
 use Rattle.rule_meaning.specs.Reading.{read}
-use Rattle.rule_meaning.specs.History.{is_due_after, last_due, is_due, memory, memory_read, reading}
+use Rattle.rule_meaning.specs.History.{is_due_after, last_due, is_due, memory_read, memory, reading}
 
 whole_at_least_zero : (a b : ℤ) → a ≤ℤ b → zero ≤ℚ whole (b -ℤ a)
 unfolding whole den

@@ -1,9 +1,16 @@
+pub mod Choices
+pub mod Cited
 pub mod Days
 pub mod Dues
+pub mod Kept
+pub mod LineValues
 pub mod Listed
 pub mod Listing
 pub mod Members
+pub mod MovedNumbers
 pub mod Moves
+pub mod OrderValues
 pub mod Premises
+pub mod Replays
 pub mod Settling
 pub mod Values

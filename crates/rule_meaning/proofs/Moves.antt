@@ -1,10 +1,10 @@
 -- How settings move.
-use Rattle.std.proofs.Common.{◌≡◌, ℕ, Bool, true, false, Result, Ok, Err, List, [], ◌∷◌, length, refl, sym, arith}
+use Rattle.std.proofs.Common.{◌≡◌, ℕ, Bool, true, false, Result, Ok, Err, List, [], ◌∷◌, length, inl, inr, refl, sym, arith}
 use Rattle.std.specs.List.{AllZip}
-use Rattle.exact_fraction.specs.Number.{Rational}
+use Rattle.exact_fraction.specs.Number.{Rational, zero, one}
 use Rattle.exact_fraction.specs.Operations.{sum_of, difference_of, round9_of}
 use Rattle.exact_fraction.specs.Order.{◌≤ℚ◌, less, lesser_of, greater_of}
-use Rattle.exact_fraction.proofs.Cited.{order-reflexive, tests-not_less, order-lesser, order-greater}
+use Rattle.exact_fraction.proofs.Cited.{order-total, order-transitive, order-below_is_at_most, order-reflexive, tests-not_less, order-lesser, order-greater}
 use Rattle.rule_types.specs.declared.action.Order.{Order}
 use Rattle.rule_types.specs.declared.stop.Stop.{Stop}
 use Rattle.rule_types.specs.declared.rules.Rules.{Rules}
@@ -25,6 +25,7 @@ greater_least_by r p q true is h g = rw is g
 greater_least_by r p q false is h g = rw is h
 
 up_by : (y t m : Rational) (b : Bool) → less y t ≡ b → y ≤ℚ t → (y ≤ℚ towards y t m) × (towards y t m ≤ℚ t)
+unfolding towards
 up_by y t m true is h =
     rw is
     (let v = greater_of y (sum_of (round9_of y) m) in
@@ -32,6 +33,7 @@ up_by y t m true is h =
 up_by y t m false is h = rw is (rw ((tests-not_less t y).1 h) (h, order-reflexive t))
 
 down_by : (y t m : Rational) (b : Bool) → less t y ≡ b → t ≤ℚ y → (t ≤ℚ towards y t m) × (towards y t m ≤ℚ y)
+unfolding towards
 down_by y t m true is h =
     rw ((tests-not_less y t).1 h) (rw is
     (let v = lesser_of y (difference_of (round9_of y) m) in
@@ -39,10 +41,12 @@ down_by y t m true is h =
 down_by y t m false is h = rw ((tests-not_less y t).1 h) (rw is (order-reflexive t, h))
 
 moved_up_by : (rate gap y t : Rational) (b : Bool) → has_rate rate ≡ b → y ≤ℚ t → (y ≤ℚ moved rate gap y t) × (moved rate gap y t ≤ℚ t)
+unfolding moved
 moved_up_by rate gap y t true is h = rw is (up_by y t (reach gap rate) (less y t) refl h)
 moved_up_by rate gap y t false is h = rw is (h, order-reflexive t)
 
 moved_down_by : (rate gap y t : Rational) (b : Bool) → has_rate rate ≡ b → t ≤ℚ y → (t ≤ℚ moved rate gap y t) × (moved rate gap y t ≤ℚ y)
+unfolding moved
 moved_down_by rate gap y t true is h = rw is (down_by y t (reach gap rate) (less t y) refl h)
 moved_down_by rate gap y t false is h = rw is (order-reflexive t, h)
 
@@ -52,11 +56,26 @@ moved_up rate gap y t h = moved_up_by rate gap y t (has_rate rate) refl h
 pub moved_down : (rate gap y t : Rational) → t ≤ℚ y → (t ≤ℚ moved rate gap y t) × (moved rate gap y t ≤ℚ y)
 moved_down rate gap y t h = moved_down_by rate gap y t (has_rate rate) refl h
 
+-- and within bounds
+pub moved_least : (rate gap y t : Rational) → zero ≤ℚ y → zero ≤ℚ t → zero ≤ℚ moved rate gap y t
+moved_least rate gap y t h g = elim (order-total y t) [
+  | inl up ↦ order-transitive zero y (moved rate gap y t) h (moved_up rate gap y t up).0
+  | inr down ↦ order-transitive zero t (moved rate gap y t) g (moved_down rate gap y t (order-below_is_at_most t y down)).0
+]
+
+pub moved_most : (rate gap y t : Rational) → y ≤ℚ one → t ≤ℚ one → moved rate gap y t ≤ℚ one
+moved_most rate gap y t h g = elim (order-total y t) [
+  | inl up ↦ order-transitive (moved rate gap y t) t one (moved_up rate gap y t up).1 g
+  | inr down ↦ order-transitive (moved rate gap y t) y one (moved_down rate gap y t (order-below_is_at_most t y down)).1 h
+]
+
 pub moved_at_once : (rate gap y t : Rational) → has_rate rate ≡ false → moved rate gap y t ≡ t
+unfolding moved
 moved_at_once rate gap y t h = rw h refl
 
 -- over all links of a row
 at_target_moved : (gap : Rational) (orders : List Order) (links : List ℕ) (rates : List Rational) (states : List LinkState) → length states ≡ length links → AllZip (λ rate link. has_rate rate ≡ false → link.target ≡ link.setting) rates states → AllZip (λ rate at. has_rate rate ≡ false → at.setting ≡ at.target) rates (all_moved gap orders links rates states)
+unfolding all_moved
 at_target_moved gap orders [] [] [] e h = h
 at_target_moved gap orders [] [] (old ∷ states) e h = absurd h
 at_target_moved gap orders [] (rate ∷ rates) [] e h = absurd h
@@ -84,6 +103,7 @@ at_target x tables older s fits = at_target_by x (gap_hours x.routing_step older
 
 -- no setting passes its target
 on_the_way_moved : (gap : Rational) (orders : List Order) (links : List ℕ) (rates : List Rational) (states : List LinkState) → length rates ≡ length links → length states ≡ length links → AllZip IsOnTheWay states (all_moved gap orders links rates states)
+unfolding all_moved
 on_the_way_moved gap orders [] rates [] e f = tt
 on_the_way_moved gap orders [] rates (old ∷ states) e f = absurd (omega (arith, f))
 on_the_way_moved gap orders (link ∷ links) [] states e f = absurd (omega (arith, e))

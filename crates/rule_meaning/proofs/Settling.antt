@@ -91,15 +91,18 @@ before_through false false false false false false m n k i j l p q u t same h g 
 
 -- so pairs go before one another in a weak order, which is strict among the pairs of one rule
 same_priority : (rules : List Rule) (p q : ActionAt) → p.rule ≡ q.rule → outranks (priority_at rules p) (priority_at rules q) ≡ false
+unfolding priority_at
 same_priority rules p q e = rw e (irreflexive (priority_at rules q))
 
 pub beats_asym : (rules : List Rule) (p q : ActionAt) → beats rules p q ≡ true → beats rules q p ≡ false
+unfolding beats priority_at
 beats_asym rules p q h =
     before_asym (outranks (priority_at rules p) (priority_at rules q)) (outranks (priority_at rules q) (priority_at rules p))
     p.rule q.rule p.action q.action (outranks_asym (priority_at rules p) (priority_at rules q))
     (same_priority rules p q) (λ e. same_priority rules q p (sym e)) h
 
 pub beats_through : (rules : List Rule) (p q r : ActionAt) → beats rules p q ≡ false → beats rules q r ≡ false → beats rules p r ≡ false
+unfolding beats priority_at
 beats_through rules p q r h g =
     let a = priority_at rules p in
     let b = priority_at rules q in
@@ -110,6 +113,7 @@ beats_through rules p q r h g =
     (λ e. same_priority rules r p (sym e)) h g
 
 pub beats_ties : (rules : List Rule) (p q : ActionAt) → beats rules p q ≡ false → beats rules q p ≡ false → (p.rule ≡ q.rule) × (p.action ≡ q.action)
+unfolding beats priority_at
 beats_ties rules p q h g =
     before_ties (outranks (priority_at rules p) (priority_at rules q)) (outranks (priority_at rules q) (priority_at rules p))
     p.rule q.rule p.action q.action h g
@@ -126,6 +130,7 @@ and_true a b h g = grind arith
 
 -- the definition as a relation and as a test
 pub settled_told : (rules : List Rule) (pairs : List ActionAt) (link : ℕ) (p : ActionAt) → IsIn pairs p → is_settled rules pairs link p ≡ true → IsSettled rules pairs link p
+unfolding is_settled is_unbeaten
 settled_told rules pairs link p is_in h =
     let on : is_on rules link p ≡ true = grind arith in
     let free : is_unbeaten rules pairs link p ≡ true = grind arith in
@@ -138,6 +143,7 @@ settled_told rules pairs link p is_in h =
     }
 
 pub tells_settled : (rules : List Rule) (pairs : List ActionAt) (link : ℕ) (p : ActionAt) → IsSettled rules pairs link p → is_settled rules pairs link p ≡ true
+unfolding is_settled is_unbeaten
 tells_settled rules pairs link p h =
     let free : is_unbeaten rules pairs link p ≡ true = holds_all (λ q. not (is_on rules link q && beats rules q p)) pairs (λ q q_in. both_not (is_on rules link q) (beats rules q p) (h.unbeaten q q_in)) in
     and_true (is_on rules link p) (is_unbeaten rules pairs link p) h.on_link free
@@ -245,11 +251,13 @@ at_least_one rules pairs link p is_in on =
 
 -- the function gives the settled pair
 pub given_is_settled : (rules : List Rule) (pairs : List ActionAt) (link : ℕ) (p : ActionAt) → settled_on rules pairs link ≡ Some p → IsSettled rules pairs link p
+unfolding settled_on
 given_is_settled rules pairs link p h =
     let found = find_some (is_settled rules pairs link) pairs p h in
     settled_told rules pairs link p found.0 found.1
 
 given_by : (rules : List Rule) (pairs : List ActionAt) (link : ℕ) (p : ActionAt) (o : Option ActionAt) → settled_on rules pairs link ≡ o → IsOneBranchEach pairs → IsSettled rules pairs link p → settled_on rules pairs link ≡ Some p
+unfolding settled_on
 given_by rules pairs link p None is each h =
     let no : is_settled rules pairs link p ≡ false = find_none (is_settled rules pairs link) pairs p is h.member in
     let yes : is_settled rules pairs link p ≡ true = tells_settled rules pairs link p h in
@@ -262,6 +270,7 @@ pub settled_is_given : (rules : List Rule) (pairs : List ActionAt) (link : ℕ) 
 settled_is_given rules pairs link p each h = given_by rules pairs link p (settled_on rules pairs link) refl each h
 
 none_by : (rules : List Rule) (pairs : List ActionAt) (link : ℕ) (p : ActionAt) (a : Bool) → is_on rules link p ≡ a → settled_on rules pairs link ≡ None → IsIn pairs p → is_on rules link p ≡ false
+unfolding settled_on
 none_by rules pairs link p false off h is_in = off
 none_by rules pairs link p true on h is_in =
     let found = at_least_one rules pairs link p is_in on in

@@ -21,10 +21,12 @@ use Rattle.rule_meaning.specs.Pid.{IsPidValue, error_of, unstuck, change_of, bou
 use Rattle.rule_meaning.proofs.Moves.{lesser_least_by}
 
 clamped : (r : Result Rational Overflow) → IfOk (at_least_zero r) (λ y. zero ≤ℚ y)
+unfolding line_value
 clamped (Ok y) = (order-greater zero y).0
 clamped (Err why) = tt
 
 pub line_at_least_zero : (points : List Point) (x : Rational) → IfOk (line_value points x) (λ y. zero ≤ℚ y)
+unfolding line_value
 line_at_least_zero [] x = order-reflexive zero
 line_at_least_zero (p ∷ more) x = clamped (line_from p more x)
 
@@ -33,11 +35,12 @@ last_step : {A B E : Type 0} (P : B → Type 0) (r : Result A E) (next : A → R
 last_step P (Ok a) next h = h a
 last_step P (Err why) next h = tt
 
-zero_below_one : zero ≤ℚ one
+pub zero_below_one : zero ≤ℚ one
 unfolding whole den
 zero_below_one = record { le = omega (arith, ints) }
 
 bounded_in : (pump : Bool) (q : Rational) → IsPidValue pump (bounded pump q)
+unfolding bounded
 bounded_in true q = record { least = (order-greater zero q).0; most = λ h. (let no : true ≡ false = h in grind arith) }
 bounded_in false q = record {
   least = lesser_least_by zero one (greater_of zero q) (less (greater_of zero q) one) refl zero_below_one ((order-greater zero q).0);
@@ -45,6 +48,7 @@ bounded_in false q = record {
 }
 
 pub pid_in_bounds : (set : PidSet) (set_point x old minutes : Rational) (pump : Bool) (before : PidMemory) → IfOk (pid_step set set_point x old minutes pump before) (λ stepped. IsPidValue pump stepped.value)
+unfolding pid_step
 pid_in_bounds set set_point x old minutes pump before =
     last_step _ (error_of set_point x) _ (λ e0.
     last_step _ (unstuck e0 before) _ (λ memory.
@@ -62,4 +66,5 @@ present_by false true timer e = refl
 present_by false false timer e = grind arith
 
 pub one_timer : (link : LinkState) → zero ≤ℚ link.setting → is_some (link_value TimeClosed link) ≡ not (is_some (link_value TimeOpen link))
+unfolding link_value
 one_timer link h = present_by (less zero link.setting) (same link.setting zero) link.timer (closed_where_not_open link.setting h)

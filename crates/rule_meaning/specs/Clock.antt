@@ -7,42 +7,42 @@ use Rattle.rule_types.specs.declared.key.ClockAttr.{ClockAttr}
 use Rattle.rule_types.specs.declared.key.ClockAttr.TheVariants.{Time, Date, Month, Day, ClockTime, DayOfYear}
 
 -- the day number of a second: 0 for 1970-01-01 (own)
-abbrev pub day_of : ℤ → ℤ
+unfoldable pub day_of : ℤ → ℤ
 day_of second = int_div_euclid second (pos 86400)
 
 -- whole seconds in hours (own)
-abbrev pub hours_of : ℤ → Rational
+unfoldable pub hours_of : ℤ → Rational
 hours_of seconds = ratio seconds 3600
 
 -- the day number on which a month of a year begins, in the calendar's words (own)
-abbrev pub month_start : ℕ → ℕ → ℤ
+unfoldable pub month_start : ℕ → ℕ → ℤ
 month_start year month = days_from_civil (pos year) month 1
 
 -- the year that the mean length of the years, 146,097 days in 400, gives for a day: it is the day's year or the one before
 -- (own)
-abbrev pub near_year : ℤ → ℕ
+unfoldable pub near_year : ℤ → ℕ
 near_year day = 400 * unsigned_abs (day +ℤ pos 719162) / 146097 + 1
 
 -- the year of a day: that year, unless the next one has begun (own)
-abbrev pub year_of : ℤ → ℕ
+unfoldable pub year_of : ℤ → ℕ
 year_of day = if int_lt day (month_start (near_year day + 1) 1) then near_year day else near_year day + 1
 
 -- the last of the first so many months of a year that has begun by a day (own)
-abbrev pub last_begun : ℤ → ℕ → ℕ → ℕ
+unfoldable pub last_begun : ℤ → ℕ → ℕ → ℕ
 last_begun day year zero = 0
 last_begun day year (suc month) =
     if int_lt day (month_start year (suc month)) then last_begun day year month else suc month
 
 -- the month of a day, 1 for January (SWMM 5.2 manual, [CONTROLS], SIMULATION MONTH)
-abbrev pub month_of : ℤ → ℕ
+unfoldable pub month_of : ℤ → ℕ
 month_of day = last_begun day (year_of day) 12
 
 -- the day of the week, 1 for Sunday (SWMM 5.2 manual, [CONTROLS], SIMULATION DAY)
-abbrev pub week_day_of : ℤ → ℕ
+unfoldable pub week_day_of : ℤ → ℕ
 week_day_of day = (weekday_number day + 1) % 7 + 1
 
 -- the place of a day in its year, 1 for 1 January (SWMM 5.2 manual, [CONTROLS], SIMULATION DAYOFYEAR)
-abbrev pub year_day_of : ℤ → ℤ
+unfoldable pub year_day_of : ℤ → ℤ
 year_day_of day = day -ℤ month_start (year_of day) 1 +ℤ pos 1
 
 -- on a day the clock tells year y, month m and the d-th day of the year (own)
@@ -53,7 +53,7 @@ pub record IsClockDate (day : ℤ) (y m d : ℕ) : Type 0 where
 
 -- what the clock tells at a second, from a start: hours since the start, the day number, the month, the day of the week,
 -- hours since midnight, the day of the year (SWMM 5.2 manual, [CONTROLS], SIMULATION; day numbers and days of a year: own)
-abbrev pub clock_value : ClockAttr → ℤ → ℤ → Rational
+unfoldable pub clock_value : ClockAttr → ℤ → ℤ → Rational
 clock_value Time start second = hours_of (second -ℤ start)
 clock_value Date start second = whole (day_of second)
 clock_value Month start second = whole (pos (month_of (day_of second)))

@@ -22,41 +22,41 @@ abbrev pub number_of : Derived → Option Rational
 number_of (Ok found) = found
 number_of (Err why) = None
 
-abbrev pub named_value : Rules → State → Option NameDef → Option Rational
+unfoldable pub named_value : Rules → State → Option NameDef → Option Rational
 named_value x s None = None
 named_value x s (Some named) = number_of (kind_value x s named.stands_for)
 
 -- the value of the left side: of a key, or of the expression of a place (SWMM 5.2 manual, [CONTROLS])
-abbrev pub left_value : Rules → State → Side → Option Rational
+unfoldable pub left_value : Rules → State → Side → Option Rational
 left_value x s (side.Key key) = value x s key
 left_value x s (side.Expr name) = named_value x s (slice_get x.names name)
 
 -- the value of the right side: of a key, or a number (SWMM 5.2 manual, [CONTROLS])
-abbrev pub right_value : Rules → State → Right → Option Rational
+unfoldable pub right_value : Rules → State → Right → Option Rational
 right_value x s (right.Key key) = value x s key
 right_value x s (right.Value q) = Some q
 
 -- so many seconds in hours, and half of a step (own)
-abbrev pub hours_of_step : Rational → Rational
+unfoldable pub hours_of_step : Rational → Rational
 hours_of_step seconds = quotient_of seconds (whole (pos 3600))
 
-abbrev pub half_of : Rational → Rational
+unfoldable pub half_of : Rational → Rational
 half_of hours = quotient_of hours (whole (pos 2))
 
 -- whether a time lies within half a step of another: at least that less half a step, and below that and half a step (SWMM
 -- 5.2 manual, [CONTROLS], times; half a step: own)
-abbrev pub is_within : Rational → Rational → Rational → Bool
+unfoldable pub is_within : Rational → Rational → Rational → Bool
 is_within time other half = not (less time (difference_of other half)) && less time (sum_of other half)
 
 -- whether a time stands in a relation to a time value, at a step of so many hours: `=` within half a step, `<>` the contrary,
 -- the others exactly (own)
-abbrev pub time_relates : Relation → Rational → Rational → Rational → Bool
+unfoldable pub time_relates : Relation → Rational → Rational → Rational → Bool
 time_relates Eq time other step = is_within time other (half_of step)
 time_relates Ne time other step = not (is_within time other (half_of step))
 time_relates relation time other step = relates relation time other
 
 -- whether two numbers meet a condition (SWMM 5.2 manual, [CONTROLS])
-abbrev pub meets : Condition → Rational → Rational → Rational → Bool
+unfoldable pub meets : Condition → Rational → Rational → Rational → Bool
 meets c step p q = if c.half_step then time_relates c.rel p q step else relates c.rel p q
 
 -- whether two values meet a condition: not where one is missing (own)
@@ -66,5 +66,5 @@ both_meet c step (Some p) None = false
 both_meet c step None q = false
 
 -- whether a condition holds at a state (SWMM 5.2 manual, [CONTROLS]; missing values: own)
-abbrev pub holds : Rules → State → Condition → Bool
+unfoldable pub holds : Rules → State → Condition → Bool
 holds x s c = both_meet c (hours_of_step s.step) (left_value x s c.left) (right_value x s c.right)

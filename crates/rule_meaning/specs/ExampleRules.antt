@@ -1,11 +1,13 @@
 -- Rules that examples speak of, and their states.
-use Rattle.std.specs.Prelude.{ℕ, Option, Some, None, [], ◌∷◌}
+use Rattle.std.specs.Prelude.{ℕ, Option, Some, None, [], ◌∷◌, pos, ◌+ℤ◌}
 use Rattle.exact_fraction.specs.Number.{Rational, zero, one}
 use Rattle.exact_fraction.specs.declared.relation.Relation.TheVariants.{Ne, Gt, Ge}
 use Rattle.rule_types.specs.declared.key.Attr.TheVariants.{Flow}
 use Rattle.rule_types.specs.declared.rules.Rules.{Rules}
 use Rattle.rule_types.specs.declared.state.State.{State}
-use Rattle.rule_meaning.specs.Examples.{number, decimal, depth, link_key, and_if, or_if, or_if_name, set_to, by_curve, by_series, pid_numbers_of, by_pid, rule_of, rules_of, plain_rules, state_of, quotient_names}
+use Rattle.rule_meaning.specs.Reading.{Choice}
+use Rattle.rule_meaning.specs.Replay.{Row}
+use Rattle.rule_meaning.specs.Examples.{number, decimal, depth, link_key, and_if, or_if, or_if_name, set_to, by_curve, by_series, pid_numbers_of, by_pid, rule_of, rules_of, plain_rules, midnight, state_of, first_action, quotient_names}
 
 -- two rules on link 0 whose premises hold where depth 0 is above 0, of these priorities: the first sets 0.2, the
 -- second 0.7 (own)
@@ -41,11 +43,37 @@ slow_rules =
     rules_of [] (link_key Flow 1 ∷ []) zero 60 600
     (rule_of (and_if (link_key Flow 1) Ne (number 2) ∷ []) (by_pid 0 (pid_numbers_of (decimal 1 10) (number 10) zero) ∷ []) [] None ∷ [])
 
--- an orifice that takes half an hour: closed where depth 0 is above 1, else open (own)
-abbrev pub moving_rules : Rules
-moving_rules =
-    rules_of [] (depth 0 ∷ []) (decimal 1 2) 300 0
+-- an orifice of this rate, at a RULE_STEP in seconds: closed where depth 0 is above 1, else open (own)
+abbrev pub orifice_rules : Rational → ℕ → Rules
+orifice_rules rate rule_step =
+    rules_of [] (depth 0 ∷ []) rate 300 rule_step
     (rule_of (and_if (depth 0) Gt one ∷ []) (set_to 0 zero ∷ []) (set_to 0 one ∷ []) None ∷ [])
+
+-- one that takes half an hour, and one that moves at once, with a start at midnight (own)
+abbrev pub moving_rules : Rules
+moving_rules = orifice_rules (decimal 1 2) 0
+
+abbrev pub started_rules : Rules
+started_rules = record (orifice_rules zero 0) { start = Some midnight }
+
+-- a row at so many seconds after midnight with this depth, and its state: the step in seconds, and link 0 at a setting and a
+-- target with its timer (own)
+abbrev pub row_at : ℕ → ℕ → Row
+row_at seconds level = record { moment = midnight +ℤ pos seconds; inputs = Some (number level) ∷ [] }
+
+abbrev pub row_state : ℕ → ℕ → ℕ → Rational → Rational → Rational → State
+row_state seconds level step setting target timer =
+    record {
+      moment = midnight +ℤ pos seconds;
+      start = midnight;
+      step = number step;
+      inputs = Some (number level) ∷ [];
+      links = record { setting = setting; target = target; timer = timer } ∷ [];
+    }
+
+-- a choice of the first action of a rule, whatever is settled (own)
+abbrev pub always_first : ℕ → Choice
+always_first rule = λ s link. Some (first_action rule)
 
 abbrev pub moving_state : ℕ → ℕ → Rational → Rational → State
 moving_state seconds level setting target = state_of seconds 300 (Some (number level) ∷ []) setting target

@@ -12,6 +12,7 @@ use Rattle.rule_types.specs.declared.expr.Expr.TheFolds.{fold-Expr}
 use Rattle.rule_types.specs.declared.names.NameDef.{NameDef}
 use Rattle.rule_types.specs.declared.names.NameKind.{NameKind}
 use Rattle.rule_types.specs.declared.names.NameKind.TheVariants.{Variable, Formula}
+use Rattle.rule_types.specs.declared.rule.Rule.{Rule}
 use Rattle.rule_types.specs.declared.rules.Rules.{Rules}
 use Rattle.rule_types.specs.declared.state.State.{State}
 use Rattle.rule_types.specs.declared.stop.StopCause.{StopCause}
@@ -26,7 +27,7 @@ abbrev pub Derived : Type 0
 Derived = Result (Option Rational) StopCause
 
 -- a number that fits, or Overflow (own)
-abbrev pub fitted : Rational → Derived
+unfoldable pub fitted : Rational → Derived
 fitted q = if fits q then Ok (Some q) else Err cause.Overflow
 
 -- an operand that is a number goes on; one that is missing or stops is the result (own)
@@ -40,29 +41,29 @@ abbrev pub on_numbers : Derived → Derived → (Rational → Rational → Deriv
 on_numbers a b next = on_number a (λ p. on_number b (next p))
 
 -- -1, 0 or 1 by the sign (SWMM 5.2 manual, [CONTROLS], sgn; at 0: own)
-abbrev pub sign_of : Rational → Rational
+unfoldable pub sign_of : Rational → Rational
 sign_of p = if less p zero then negation_of one else (if less zero p then one else zero)
 
 -- the number without its sign (SWMM 5.2 manual, [CONTROLS], abs)
-abbrev pub size_of : Rational → Rational
+unfoldable pub size_of : Rational → Rational
 size_of p = if less p zero then negation_of p else p
 
 -- 0 where it is at most 0, else 1 (SWMM 5.2 manual, [CONTROLS], step)
-abbrev pub step_of : Rational → Rational
+unfoldable pub step_of : Rational → Rational
 step_of p = if less zero p then one else zero
 
 -- the quotient: ZeroDivisor where the divisor is 0 (own)
-abbrev pub divided : Rational → Rational → Derived
+unfoldable pub divided : Rational → Rational → Derived
 divided p q = if is_zero q then Err cause.ZeroDivisor else fitted (quotient_of p q)
 
 -- p to the power 0 is 1, and p^n is p^(n-1) * p (own)
-abbrev pub power : Rational → ℕ → Derived
+unfoldable pub power : Rational → ℕ → Derived
 power p nothing = Ok (Some one)
 power p (suc n) = on_number (power p n) (λ q. fitted (product_of q p))
 
 -- one node of a formula, with what each operand gives in its place, where the variables give what `variable` says
 -- (own)
-abbrev pub worked_step : (ℕ → Derived) → Expr-F Derived → Derived
+unfoldable pub worked_step : (ℕ → Derived) → Expr-F Derived → Derived
 worked_step variable (Expr-F.Number q) = Ok (Some q)
 worked_step variable (Expr-F.Name n) = variable n
 worked_step variable (Expr-F.Neg a) = on_number a (λ p. Ok (Some (negation_of p)))
@@ -80,35 +81,39 @@ abbrev pub variable_kind : Rules → State → NameKind → Derived
 variable_kind x s (Variable key) = Ok (value x s key)
 variable_kind x s (Formula formula) = Ok None
 
-abbrev pub variable_named : Rules → State → Option NameDef → Derived
+unfoldable pub variable_named : Rules → State → Option NameDef → Derived
 variable_named x s None = Ok None
 variable_named x s (Some named) = variable_kind x s named.stands_for
 
 -- the value of a formula at a state: from the left to the right, the first operand that is missing, overflows or divides by
 -- zero is the result (SWMM 5.2 manual, [CONTROLS], EXPRESSION; missing values and stops: own)
-abbrev pub formula_value : Rules → State → Expr → Derived
+unfoldable pub formula_value : Rules → State → Expr → Derived
 formula_value x s = fold-Expr Derived (worked_step (λ n. variable_named x s (slice_get x.names n)))
 
 -- the value of what a name stands for (SWMM 5.2 manual, [CONTROLS])
-abbrev pub kind_value : Rules → State → NameKind → Derived
+unfoldable pub kind_value : Rules → State → NameKind → Derived
 kind_value x s (Variable key) = Ok (value x s key)
 kind_value x s (Formula formula) = formula_value x s formula
 
--- whether a name is used: it stands on a side of a condition, or in an expression that does (own)
-abbrev pub is_used : Rules → ℕ → Bool
-is_used x name = list_any (λ other. name == other) (used_names x.names x.rules)
+-- whether some of the rules use a name: it stands on a side of one of their conditions, or in an expression that does (own)
+unfoldable pub is_used : Rules → List Rule → ℕ → Bool
+is_used x rules name = list_any (λ other. name == other) (used_names x.names rules)
 
--- the first stop of the used names, in the order of the file from `at` on (own)
+-- the first stop of the names that some of the rules use, in the order of the file from `at` on (own)
 abbrev pub stop_or : ℕ → Derived → Option Stop → Option Stop
 stop_or at (Ok found) later = later
 stop_or at (Err why) later = Some (record { place = place.Name at; cause = why })
 
-abbrev pub stop_from : Rules → State → ℕ → List NameDef → Option Stop
-stop_from x s at [] = None
-stop_from x s at (named ∷ names) =
-    if is_used x at then stop_or at (kind_value x s named.stands_for) (stop_from x s (suc at) names)
-    else stop_from x s (suc at) names
+unfoldable pub stop_from : Rules → List Rule → State → ℕ → List NameDef → Option Stop
+stop_from x rules s at [] = None
+stop_from x rules s at (named ∷ names) =
+    if is_used x rules at then stop_or at (kind_value x s named.stands_for) (stop_from x rules s (suc at) names)
+    else stop_from x rules s (suc at) names
 
--- the first used name, in the order of the file, that overflows or divides by zero (own)
+-- the first of the names that some of the rules use, in the order of the file, that overflows or divides by zero (own)
+unfoldable pub names_stop_for : Rules → List Rule → State → Option Stop
+names_stop_for x rules s = stop_from x rules s 0 x.names
+
+-- the same of all rules (own)
 abbrev pub names_stop : Rules → State → Option Stop
-names_stop x s = stop_from x s 0 x.names
+names_stop x s = names_stop_for x x.rules s

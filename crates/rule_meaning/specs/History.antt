@@ -20,7 +20,7 @@ use Rattle.rule_meaning.specs.Clock.{hours_of}
 use Rattle.rule_meaning.specs.Movement.{moved}
 use Rattle.rule_meaning.specs.Pid.{Stepped, fresh}
 use Rattle.rule_meaning.specs.Premise.{listed}
-use Rattle.rule_meaning.specs.Reading.{pid_at, read}
+use Rattle.rule_meaning.specs.Reading.{Choice, settling, pid_at, read_by}
 use Rattle.rule_meaning.specs.Settled.{action_at}
 
 -- whether a moment is due where the last due row was then: at least RULE_STEP has passed, or there was none (SWMM 5.2 manual,
@@ -56,7 +56,7 @@ memory_left before (Some (Err why)) = before
 
 -- the memory of the PID action of a number after some listed pairs: what that action leaves, where it is among them, else the
 -- memory before (own)
-abbrev pub memory_listed : Rules → State → (ℕ → PidMemory) → ℕ → List ActionAt → PidMemory
+unfoldable pub memory_listed : Rules → State → (ℕ → PidMemory) → ℕ → List ActionAt → PidMemory
 memory_listed x s before number [] = before number
 memory_listed x s before number (at ∷ more) =
     if is_pid_action number (action_at x.rules at) then memory_left (before number) (pid_at x s before at)
@@ -69,16 +69,24 @@ memory_read x s before number (Err stop) = before number
 
 -- The memory of the PID action of a number after a list of states: 0 and 0 at first, and with one more state what that action
 -- leaves there, where the state is due, its reading does not stop and the action is listed; else it stays (own).
-abbrev pub memory : Rules → TableSet → List State → ℕ → PidMemory
-memory x tables [] number = fresh
-memory x tables (s ∷ older) number =
+abbrev pub memory_by : Choice → Rules → TableSet → List State → ℕ → PidMemory
+memory_by choice x tables [] number = fresh
+memory_by choice x tables (s ∷ older) number =
     if is_due x.rule_step older s
-    then memory_read x s (memory x tables older) number (read x tables s (memory x tables older))
-    else memory x tables older number
+    then memory_read x s (memory_by choice x tables older) number (read_by choice x tables s (memory_by choice x tables older))
+    else memory_by choice x tables older number
 
--- the reading of a state after a list of states: at a state that is not due it settles nothing and does not stop (own)
+-- the reading of a state after a list of states: at a state that is not due nothing is taken, and it does not stop (own)
+abbrev pub reading_by : Choice → Rules → TableSet → List State → State → Result (List Order) Stop
+reading_by choice x tables older s =
+    if is_due x.rule_step older s then read_by choice x tables s (memory_by choice x tables older) else Ok []
+
+-- the same where each link takes its settled pair (SWMM 5.2 manual, [CONTROLS])
+abbrev pub memory : Rules → TableSet → List State → ℕ → PidMemory
+memory x = memory_by (settling x) x
+
 abbrev pub reading : Rules → TableSet → List State → State → Result (List Order) Stop
-reading x tables older s = if is_due x.rule_step older s then read x tables s (memory x tables older) else Ok []
+reading x = reading_by (settling x) x
 
 -- the hours since the last state, and the routing step before the first one (own)
 abbrev pub gap_hours : Rational → List State → State → Rational
@@ -86,7 +94,7 @@ gap_hours routing_step [] s = quotient_of routing_step (whole (pos 3600))
 gap_hours routing_step (last ∷ older) s = hours_of (s.moment -ℤ last.moment)
 
 -- the new target of a link: the value of its order, or the old target where it has none (own)
-abbrev pub new_target : List Order → ℕ → Rational → Rational
+unfoldable pub new_target : List Order → ℕ → Rational → Rational
 new_target [] link old = old
 new_target (one ∷ more) link old = if one.link == link then one.value else new_target more link old
 
@@ -99,7 +107,7 @@ abbrev pub standing_of : Rational → Rational → Rational → Rational → Sta
 standing_of rate gap setting target = record { setting = moved rate gap setting target; target = target }
 
 -- each tracked link after orders: its new target, and its setting moved towards it (own)
-abbrev pub all_moved : Rational → List Order → List ℕ → List Rational → List LinkState → List Standing
+unfoldable pub all_moved : Rational → List Order → List ℕ → List Rational → List LinkState → List Standing
 all_moved gap orders [] rates states = []
 all_moved gap orders (link ∷ links) [] states = []
 all_moved gap orders (link ∷ links) (rate ∷ rates) [] = []
@@ -115,11 +123,14 @@ abbrev pub standings_after : Rules → Rational → State → Result (List Order
 standings_after x gap s (Ok orders) = all_moved gap orders x.tracked x.rates s.links
 standings_after x gap s (Err stop) = stayed s.links
 
--- The settings and targets of the tracked links after the row of a state: each settled link takes its value as its target, the
--- others keep theirs, and the settings follow (SWMM 5.2 manual, [CONTROLS] and [ORIFICES]).
+-- The settings and targets of the tracked links after the row of a state: each link that takes a pair gets that pair's value as
+-- its target, the others keep theirs, and the settings follow (SWMM 5.2 manual, [CONTROLS] and [ORIFICES]).
+abbrev pub standings_by : Choice → Rules → TableSet → List State → State → List Standing
+standings_by choice x tables older s =
+    standings_after x (gap_hours x.routing_step older s) s (reading_by choice x tables older s)
+
 abbrev pub standings : Rules → TableSet → List State → State → List Standing
-standings x tables older s =
-    standings_after x (gap_hours x.routing_step older s) s (reading x tables older s)
+standings x = standings_by (settling x) x
 
 -- a link is on its way: its new setting lies between the old one and the new target (own)
 pub record IsOnTheWay (old : LinkState) (new : Standing) : Type 0 where

@@ -9,6 +9,7 @@ pub mod Movement
 pub mod Pid
 pub mod Premise
 pub mod Reading
+pub mod Replay
 pub mod Settled
 pub mod State
 pub mod Steps

@@ -12,24 +12,41 @@ use Rattle.rule_types.specs.declared.state.State.{State}
 use Rattle.rule_types.specs.Reading.{branch_actions}
 use Rattle.rule_meaning.specs.Condition.{holds}
 
--- whether a group ends before these conditions: none are left, or the first one is joined by AND (own)
-abbrev pub begins_group : List Condition → Bool
-begins_group [] = true
-begins_group (c ∷ more) = c.joined_by_and
+-- whether a group ends before these things: none are left, or the first one begins a group (own)
+abbrev pub ends_before : {A : Type 0} → (A → Bool) → List A → Bool
+ends_before begins [] = true
+ends_before begins (thing ∷ more) = begins thing
 
--- a condition in front of the first group (own)
-abbrev pub onto_first : Condition → List (List Condition) → List (List Condition)
-onto_first c [] = (c ∷ []) ∷ []
-onto_first c (group ∷ more) = (c ∷ group) ∷ more
+-- a thing in front of the first group (own)
+abbrev pub onto_first : {A : Type 0} → A → List (List A) → List (List A)
+onto_first thing [] = (thing ∷ []) ∷ []
+onto_first thing (group ∷ more) = (thing ∷ group) ∷ more
 
--- the conditions, cut before each one that is joined by AND (SWMM 5.2 manual, [CONTROLS], premises)
-abbrev pub groups : List Condition → List (List Condition)
-groups [] = []
-groups (c ∷ more) = if begins_group more then (c ∷ []) ∷ groups more else onto_first c (groups more)
+-- things cut into groups, before each one that begins a group (own)
+unfoldable pub groups : {A : Type 0} → (A → Bool) → List A → List (List A)
+groups begins [] = []
+groups begins (thing ∷ more) =
+    if ends_before begins more then (thing ∷ []) ∷ groups begins more else onto_first thing (groups begins more)
 
--- whether each group has a condition that holds, so that OR binds closer than AND (SWMM 5.2 manual, [CONTROLS], premises)
-abbrev pub premise_by : (Condition → Bool) → List Condition → Bool
-premise_by truth conditions = list_all (list_any truth) (groups conditions)
+-- whether each group has a condition that holds, where the conditions are cut before each one that is joined by AND: OR binds
+-- closer than AND (SWMM 5.2 manual, [CONTROLS], premises)
+unfoldable pub premise_by : (Condition → Bool) → List Condition → Bool
+premise_by truth conditions = list_all (list_any truth) (groups (λ c. c.joined_by_and) conditions)
+
+-- a condition at its place in a rule, from 0 (own)
+pub record Placed : Type 0 where
+  pub place : ℕ
+  pub condition : Condition
+
+-- conditions at their places, from `place` on (own)
+unfoldable pub placed_from : ℕ → List Condition → List Placed
+placed_from place [] = []
+placed_from place (c ∷ more) = record { place = place; condition = c } ∷ placed_from (suc place) more
+
+-- the same as `premise_by` where truth is told by place (own)
+unfoldable pub premise_at : (ℕ → Condition → Bool) → List Condition → Bool
+premise_at truth conditions =
+    list_all (list_any (λ c. truth c.place c.condition)) (groups (λ c. c.condition.joined_by_and) (placed_from 0 conditions))
 
 -- whether a rule's premise holds at a state (own)
 abbrev pub premise_holds : Rules → State → Rule → Bool
@@ -40,20 +57,21 @@ abbrev pub listed_branch : Rules → State → Rule → Branch
 listed_branch x s rule = if premise_holds x s rule then Then else Otherwise
 
 -- the places of a branch's actions, from `action` on (own)
-abbrev pub places_of : ℕ → Branch → ℕ → List Action → List ActionAt
+unfoldable pub places_of : ℕ → Branch → ℕ → List Action → List ActionAt
 places_of rule branch action [] = []
 places_of rule branch action (one ∷ more) =
     record { rule = rule; branch = branch; action = action } ∷ places_of rule branch (suc action) more
 
--- the pairs of the rules from place `rule` on, in the order of rules and of actions (own)
-abbrev pub listed_from : Rules → State → ℕ → List Rule → List ActionAt
-listed_from x s rule [] = []
-listed_from x s rule (one ∷ more) =
-    places_of rule (listed_branch x s one) 0 (branch_actions one (listed_branch x s one)) ++ listed_from x s (suc rule) more
+-- the pairs of the rules from `place` on, in the order of rules and of actions, where each rule at its place lists the branch
+-- that `branch` tells (own)
+unfoldable pub listed_by : (ℕ → Rule → Branch) → ℕ → List Rule → List ActionAt
+listed_by branch place [] = []
+listed_by branch place (rule ∷ more) =
+    places_of place (branch place rule) 0 (branch_actions rule (branch place rule)) ++ listed_by branch (suc place) more
 
 -- the pairs of a rule and an action of the branch that it lists at a state (SWMM 5.2 manual, [CONTROLS])
-abbrev pub listed : Rules → State → List ActionAt
-listed x s = listed_from x s 0 x.rules
+unfoldable pub listed : Rules → State → List ActionAt
+listed x s = listed_by (λ place rule. listed_branch x s rule) 0 x.rules
 
 -- a pair is listed: its rule lists its branch, and the branch has its action (SWMM 5.2 manual, [CONTROLS])
 pub record IsListed (x : Rules) (s : State) (at : ActionAt) : Type 0 where

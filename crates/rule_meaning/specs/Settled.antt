@@ -18,7 +18,7 @@ abbrev pub branch_action : ActionAt → Option Rule → Option Action
 branch_action at None = None
 branch_action at (Some rule) = slice_get (branch_actions rule at.branch) at.action
 
-abbrev pub action_at : List Rule → ActionAt → Option Action
+unfoldable pub action_at : List Rule → ActionAt → Option Action
 action_at rules at = branch_action at (slice_get rules at.rule)
 
 -- whether a pair is on a link: its action acts there (own)
@@ -26,7 +26,7 @@ abbrev pub acts_on : ℕ → Option Action → Bool
 acts_on link None = false
 acts_on link (Some action) = action.link == link
 
-abbrev pub is_on : List Rule → ℕ → ActionAt → Bool
+unfoldable pub is_on : List Rule → ℕ → ActionAt → Bool
 is_on rules link at = acts_on link (action_at rules at)
 
 -- the priority of a pair's rule (SWMM 5.2 manual, [CONTROLS], PRIORITY)
@@ -34,11 +34,11 @@ abbrev pub rule_priority : Option Rule → Option Rational
 rule_priority None = None
 rule_priority (Some rule) = rule.priority
 
-abbrev pub priority_at : List Rule → ActionAt → Option Rational
+unfoldable pub priority_at : List Rule → ActionAt → Option Rational
 priority_at rules at = rule_priority (slice_get rules at.rule)
 
 -- whether a pair goes before another: its rule precedes the other's, or it stands earlier in the same rule (own)
-abbrev pub beats : List Rule → ActionAt → ActionAt → Bool
+unfoldable pub beats : List Rule → ActionAt → ActionAt → Bool
 beats rules p q =
     precedes (priority_at rules p) p.rule (priority_at rules q) q.rule || (p.rule == q.rule && nat_lt p.action q.action)
 
@@ -50,14 +50,14 @@ pub record IsSettled (rules : List Rule) (pairs : List ActionAt) (link : ℕ) (p
   pub unbeaten : (q : ActionAt) → IsIn pairs q → IsTrue (is_on rules link q) → beats rules q p ≡ false
 
 -- the same as a test (own)
-abbrev pub is_unbeaten : List Rule → List ActionAt → ℕ → ActionAt → Bool
+unfoldable pub is_unbeaten : List Rule → List ActionAt → ℕ → ActionAt → Bool
 is_unbeaten rules pairs link p = list_all (λ q. not (is_on rules link q && beats rules q p)) pairs
 
-abbrev pub is_settled : List Rule → List ActionAt → ℕ → ActionAt → Bool
+unfoldable pub is_settled : List Rule → List ActionAt → ℕ → ActionAt → Bool
 is_settled rules pairs link p = is_on rules link p && is_unbeaten rules pairs link p
 
 -- the pair that is settled for a link, if there is one (own)
-abbrev pub settled_on : List Rule → List ActionAt → ℕ → Option ActionAt
+unfoldable pub settled_on : List Rule → List ActionAt → ℕ → Option ActionAt
 settled_on rules pairs link = find (is_settled rules pairs link) pairs
 
 -- the settled pairs, in the order of the links (own)
@@ -65,7 +65,7 @@ abbrev pub as_list : {A : Type 0} → Option A → List A
 as_list None = []
 as_list (Some thing) = thing ∷ []
 
-abbrev pub settled : List Rule → List ℕ → List ActionAt → List ActionAt
+unfoldable pub settled : List Rule → List ℕ → List ActionAt → List ActionAt
 settled rules links pairs = flat_map (λ link. as_list (settled_on rules pairs link)) links
 
 -- each rule lists one of its branches (own)

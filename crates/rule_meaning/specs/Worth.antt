@@ -27,11 +27,11 @@ last_of c (next ∷ more) = last_of next more
 
 -- the controller and the set point of a rule: the left and the right side of its last condition (SWMM 5.2 manual, modulated
 -- controls; the last condition: own)
-abbrev pub controller_of : Rules → State → List Condition → Option Rational
+unfoldable pub controller_of : Rules → State → List Condition → Option Rational
 controller_of x s [] = None
 controller_of x s (c ∷ more) = left_value x s (last_of c more).left
 
-abbrev pub set_point_of : Rules → State → List Condition → Option Rational
+unfoldable pub set_point_of : Rules → State → List Condition → Option Rational
 set_point_of x s [] = None
 set_point_of x s (c ∷ more) = right_value x s (last_of c more).right
 
@@ -40,7 +40,7 @@ abbrev pub target_or_zero : Option LinkState → Rational
 target_or_zero None = zero
 target_or_zero (Some link) = link.target
 
-abbrev pub old_target : Rules → State → ℕ → Rational
+unfoldable pub old_target : Rules → State → ℕ → Rational
 old_target x s link = target_or_zero (link_state x s link)
 
 -- the hours that a link takes to open or close fully (SWMM 5.2 manual, [ORIFICES])
@@ -48,7 +48,7 @@ abbrev pub rate_or_zero : Option Rational → Rational
 rate_or_zero None = zero
 rate_or_zero (Some rate) = rate
 
-abbrev pub rate_of : Rules → ℕ → Rational
+unfoldable pub rate_of : Rules → ℕ → Rational
 rate_of x link = rate_or_zero (beside (λ other. link == other) x.tracked x.rates)
 
 -- whether a link is a pump (own)
@@ -56,11 +56,11 @@ abbrev pub true_or_false : Option Bool → Bool
 true_or_false None = false
 true_or_false (Some pump) = pump
 
-abbrev pub is_pump : Rules → ℕ → Bool
+unfoldable pub is_pump : Rules → ℕ → Bool
 is_pump x link = true_or_false (beside (λ other. link == other) x.controlled x.pumps)
 
 -- a step of so many seconds in minutes (own)
-abbrev pub minutes_of : Rational → Rational
+unfoldable pub minutes_of : Rational → Rational
 minutes_of seconds = quotient_of seconds (whole (pos 60))
 
 -- the value of a curve at its controller; where that is missing, the old target (SWMM 5.2 manual, modulated controls; missing:
@@ -83,7 +83,7 @@ pid_worth set (Some x) (Some set_point) old seconds pump memory =
 pid_worth set (Some x) None old seconds pump memory = Ok (record { value = old; memory = memory })
 pid_worth set None set_point old seconds pump memory = Ok (record { value = old; memory = memory })
 
-abbrev pub rule_pid : Rules → State → (ℕ → PidMemory) → List Condition → ℕ → PidSet → ℕ → Result Stepped Overflow
+unfoldable pub rule_pid : Rules → State → (ℕ → PidMemory) → List Condition → ℕ → PidSet → ℕ → Result Stepped Overflow
 rule_pid x s memory conditions link set number =
     pid_worth set (controller_of x s conditions) (set_point_of x s conditions) (old_target x s link) s.step
     (is_pump x link) (memory number)
@@ -93,7 +93,7 @@ value_stepped (Ok stepped) = Ok stepped.value
 value_stepped (Err why) = Err why
 
 -- the value of an action of a rule with these conditions, before the link's rate is asked (own)
-abbrev pub what_worth : Rules → TableSet → State → (ℕ → PidMemory) → List Condition → ℕ → What → Result Rational Overflow
+unfoldable pub what_worth : Rules → TableSet → State → (ℕ → PidMemory) → List Condition → ℕ → What → Result Rational Overflow
 what_worth x tables s memory conditions link (Constant q) = Ok q
 what_worth x tables s memory conditions link (Curve curve) =
     curve_worth (curve_at tables curve.index) (controller_of x s conditions) (old_target x s link)
@@ -109,6 +109,6 @@ capped rate (Err why) = Err why
 
 -- The value of an action: a constant, a curve at the controller, a series at the moment or a step of a PID, where the PID
 -- actions have these memories (SWMM 5.2 manual, [CONTROLS] and modulated controls).
-abbrev pub worth : Rules → TableSet → State → (ℕ → PidMemory) → List Condition → Action → Result Rational Overflow
+unfoldable pub worth : Rules → TableSet → State → (ℕ → PidMemory) → List Condition → Action → Result Rational Overflow
 worth x tables s memory conditions action =
     capped (rate_of x action.link) (what_worth x tables s memory conditions action.link action.what)

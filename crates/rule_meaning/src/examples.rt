@@ -1,5 +1,5 @@
 //! Examples of the definitions, with values that were worked out by hand.
-ghost use Rattle.std.specs.Prelude.{◌≡◌, ℕ, true, false, Option, Some, None, Result, Ok, Err, [], ◌∷◌, pos, ◌+ℤ◌};
+ghost use Rattle.std.specs.Prelude.{◌≡◌, ◌==◌, ℕ, true, false, not, Option, Some, None, Result, Ok, Err, [], ◌∷◌, pos, ◌+ℤ◌};
 ghost use Rattle.exact_fraction.specs.Number.{Rational, ratio, whole, zero, one};
 ghost use Rattle.exact_fraction.specs.Operations.{negation_of};
 ghost use Rattle.exact_fraction.specs.declared.relation.Relation.TheVariants.{Eq, Ne, Lt, Le, Gt, Ge};
@@ -12,15 +12,16 @@ ghost use Rattle.rule_types.specs.declared.stop.StopCause.TheVariants as cause;
 ghost use Rattle.rule_types.specs.declared.stop.StopPlace.TheVariants as place;
 ghost use Rattle.rule_meaning.specs.Clock.{clock_value};
 ghost use Rattle.rule_meaning.specs.Condition.{time_relates, holds};
-ghost use Rattle.rule_meaning.specs.Formula.{formula_value};
-ghost use Rattle.rule_meaning.specs.Premise.{premise_holds, listed};
+ghost use Rattle.rule_meaning.specs.Formula.{formula_value, names_stop_for};
+ghost use Rattle.rule_meaning.specs.Premise.{premise_holds, premise_at, listed};
 ghost use Rattle.rule_meaning.specs.Settled.{settled_on};
 ghost use Rattle.rule_meaning.specs.Lines.{line_value};
 ghost use Rattle.rule_meaning.specs.Pid.{fresh, pid_step};
 ghost use Rattle.rule_meaning.specs.Movement.{moved};
-ghost use Rattle.rule_meaning.specs.History.{reading, standings, memory};
+ghost use Rattle.rule_meaning.specs.History.{reading_by, reading, standings, memory};
+ghost use Rattle.rule_meaning.specs.Replay.{replayed};
 ghost use Rattle.rule_meaning.specs.Examples.{number, decimal, depth, link_key, and_if, or_if, half_step_if, rule_of, rules_of, plain_rules, midnight, state_of, no_tables, slope, example_tables, pid_numbers_of, first_action, order_by, stands, net_inflow, flow_names};
-ghost use Rattle.rule_meaning.specs.ExampleRules.{ranked, stuck_rules, flow_state, beaten_pid_rules, depth_flow_state, slow_rules, moving_rules, moving_state, curve_rules, series_rules, quotient_rules, depths_state};
+ghost use Rattle.rule_meaning.specs.ExampleRules.{ranked, stuck_rules, flow_state, beaten_pid_rules, depth_flow_state, slow_rules, moving_rules, moving_state, orifice_rules, started_rules, row_at, row_state, always_first, curve_rules, series_rules, quotient_rules, depths_state};
 
 /// The clock at 2001-06-15T07:30:00, a Friday, 30 minutes after the start.
 pub fn clock()
@@ -60,7 +61,7 @@ pub fn missing_timers()
     ensures input_missing { holds (plain_rules (depth 0 ∷ []) []) (state_of 0 60 (None ∷ []) one one) (and_if (depth 0) Ne one) ≡ false }
 {}
 
-/// OR binds closer than AND, whichever comes first.
+/// OR binds closer than AND, whichever comes first, also where truths are told by place.
 pub fn premises()
     ensures or_first { premise_holds
         (plain_rules (depth 0 ∷ depth 1 ∷ depth 2 ∷ []) [])
@@ -74,6 +75,10 @@ pub fn premises()
         (plain_rules (depth 0 ∷ depth 1 ∷ depth 2 ∷ []) [])
         (state_of 0 60 (Some (number 2) ∷ Some zero ∷ Some (number 2) ∷ []) one one)
         (rule_of (and_if (depth 0) Gt one ∷ and_if (depth 1) Gt one ∷ or_if (depth 2) Gt one ∷ []) [] [] None) ≡ true }
+    ensures by_place { premise_at (λ place c. not (place == 1))
+        (and_if (depth 0) Gt one ∷ and_if (depth 0) Gt one ∷ or_if (depth 0) Gt one ∷ []) ≡ true }
+    ensures first_place { premise_at (λ place c. not (place == 0))
+        (and_if (depth 0) Gt one ∷ and_if (depth 0) Gt one ∷ or_if (depth 0) Gt one ∷ []) ≡ false }
     ensures none { premise_holds (plain_rules [] []) (state_of 0 60 [] one one) (rule_of [] [] [] None) ≡ true }
 {}
 
@@ -87,6 +92,14 @@ pub fn ranks()
         (listed (ranked None None) (state_of 0 300 (Some one ∷ []) one one)) 0 ≡ Some (first_action 0) }
     ensures nothing_listed { settled_on (ranked None None).rules
         (listed (ranked None None) (state_of 0 300 (Some zero ∷ []) one one)) 0 ≡ None }
+{}
+
+/// Another choice than the settled pair: the reading orders the pair that is chosen.
+pub fn choices()
+    ensures settled { reading (ranked None None) no_tables [] (state_of 0 300 (Some one ∷ []) one one)
+        ≡ Ok (order_by 0 (decimal 1 5) ∷ []) }
+    ensures chosen { reading_by (always_first 1) (ranked None None) no_tables [] (state_of 0 300 (Some one ∷ []) one one)
+        ≡ Ok (order_by 1 (decimal 7 10) ∷ []) }
 {}
 
 /// The straight line from (0, 0) to (3, 1), at it and outside, and a series that goes from 0.1 to 0.2.
@@ -149,13 +162,14 @@ pub fn beaten_pid()
         (depth_flow_state 300 (decimal 3 2) zero (decimal 1 2)) ≡ Ok (order_by 1 (decimal 1 4) ∷ []) }
 {}
 
-/// A used name stops the reading where no rule needs it: the condition before it holds. A missing operand on the left hides
-/// the zero divisor.
+/// A used name stops the reading where no rule needs it: the condition before it holds. Where no rule uses it, it does not stop.
+/// A missing operand on the left hides the zero divisor.
 pub fn name_stops()
     ensures zero_divisor { reading quotient_rules no_tables [] (depths_state 0 (Some one) (Some zero))
         ≡ Err (record { place = place.Name 2; cause = cause.ZeroDivisor }) }
     ensures overflow { reading quotient_rules no_tables [] (depths_state 0 (Some (number 9223372036854775807)) (Some (decimal 1 2)))
         ≡ Err (record { place = place.Name 2; cause = cause.Overflow }) }
+    ensures unused { names_stop_for quotient_rules [] (depths_state 0 (Some one) (Some zero)) ≡ None }
     ensures hidden { reading quotient_rules no_tables [] (depths_state 0 None (Some zero)) ≡ Ok [] }
     ensures keeps { standings quotient_rules no_tables [] (depths_state 0 (Some one) (Some zero)) ≡ stands one (decimal 2 5) }
     ensures net_inflow { formula_value
@@ -183,4 +197,21 @@ pub fn rows_not_due()
     ensures third { standings slow_rules no_tables
         (flow_state 300 300 (number 4) (decimal 89 100) ∷ flow_state 0 60 (number 4) one ∷ [])
         (flow_state 600 600 (number 4) (decimal 89 100)) ≡ stands (decimal 69 100) (decimal 69 100) }
+{}
+
+/// The states of rows. An orifice is closed by the first row and opened by the third, and its timer counts from there. One that
+/// takes 450 seconds is closed by a row that is not due, and the step of the next row is the time since the first one. Where
+/// the rules have a start, timers count from it.
+pub fn replays()
+    ensures first { replayed (orifice_rules zero 0) no_tables (row_at 0 2 ∷ []) ≡ row_state 0 2 300 one one zero ∷ [] }
+    ensures switched { replayed (orifice_rules zero 0) no_tables (row_at 1200 0 ∷ row_at 900 0 ∷ row_at 300 2 ∷ row_at 0 2 ∷ [])
+        ≡ row_state 1200 0 300 one one (decimal 1 12) ∷ row_state 900 0 600 zero zero (decimal 1 4)
+        ∷ row_state 300 2 300 zero zero (decimal 1 12) ∷ row_state 0 2 300 one one zero ∷ [] }
+    ensures not_due { replayed (orifice_rules zero 600) no_tables (row_at 600 0 ∷ row_at 300 0 ∷ row_at 0 2 ∷ [])
+        ≡ row_state 600 0 600 zero zero (decimal 1 6) ∷ row_state 300 0 300 zero zero (decimal 1 12)
+        ∷ row_state 0 2 300 one one zero ∷ [] }
+    ensures moved_on { replayed (orifice_rules (decimal 1 8) 600) no_tables (row_at 600 2 ∷ row_at 300 2 ∷ row_at 0 2 ∷ [])
+        ≡ row_state 600 2 600 zero zero (decimal 1 12) ∷ row_state 300 2 300 (decimal 333333333 1000000000) zero (decimal 1 12)
+        ∷ row_state 0 2 300 one one zero ∷ [] }
+    ensures started { replayed started_rules no_tables (row_at 1800 0 ∷ []) ≡ row_state 1800 0 300 one one (decimal 1 2) ∷ [] }
 {}

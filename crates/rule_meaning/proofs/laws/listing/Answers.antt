@@ -1,10 +1,15 @@
 -- The laws of listed pairs.
-use Rattle.rule_meaning.proofs.Listed.{listed_is, is_listed}
-use Rattle.rule_meaning.proofs.Listing.{one_branch_each}
+use Rattle.rule_meaning.proofs.Cited.{listing-listed, listing-one_branch_each, listing-one_branch_told, listing-same_branches}
 use Rattle.rule_meaning.proofs.laws.listing.Goals as goal
 
 pub returns-clause-listed : goal.returns-clause-listed
-returns-clause-listed c = λ x s at. (listed_is x s at, is_listed x s at)
+returns-clause-listed c = listing-listed
 
 pub returns-clause-one_branch_each : goal.returns-clause-one_branch_each
-returns-clause-one_branch_each c = one_branch_each
+returns-clause-one_branch_each c = listing-one_branch_each
+
+pub returns-clause-one_branch_told : goal.returns-clause-one_branch_told
+returns-clause-one_branch_told c = listing-one_branch_told
+
+pub returns-clause-same_branches : goal.returns-clause-same_branches
+returns-clause-same_branches c = listing-same_branches
