@@ -34,7 +34,8 @@ impl<T> Boxed<T> {
         Box::into_inner(inner)
     }
 
-    /// The allocator that the box came from, by which a copy is made.
+    /// An allocator by which a copy is made: the one that the box came from. A box is seen as its value alone, so to a caller
+    /// any allocator may come.
     pub fn allocator(&self) -> Global {
         *Box::allocator(&self.inner)
     }

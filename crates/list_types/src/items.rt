@@ -106,18 +106,3 @@ impl<T: PartialEq> PartialEq for Items<T> {
 impl<T: Eq> Eq for Items<T> {
     ghost laws = { lists_equiv T.Eq.laws };
 }
-
-#[cfg(test)]
-mod tests {
-    use super::*;
-
-    #[test]
-    fn a_copy_equals_its_list(rt: HostRuntime) -> Result<(), AllocError> {
-        let list = Items::from_vec(vec![in rt.alloc(); 7u8, 8, 9]?);
-        let copy = list.clone()?;
-        assert!(rt; copy == list);
-        let other = Items::from_vec(vec![in rt.alloc(); 7u8, 8]?);
-        assert!(rt; copy != other);
-        Ok(())
-    }
-}

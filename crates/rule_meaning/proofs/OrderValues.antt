@@ -1,5 +1,5 @@
 -- The values that readings order are at least 0, and at most 1 on a link with a rate.
-use Rattle.std.proofs.Common.{◌≡◌, ℕ, zero as nothing, suc, ◌==◌, Bool, true, false, Option, Some, None, Result, Ok, Err, List, [], ◌∷◌, length, refl, sym, subst, ◌∙◌, arith, cond}
+use Rattle.std.proofs.Common.{◌≡◌, ℕ, zero as nothing, suc, ◌==◌, Bool, true, false, Option, Some, None, Result, Ok, Err, List, [], ◌∷◌, refl, sym, subst, ◌∙◌, arith, cond}
 use Rattle.std.proofs.lemmas.Bool.Decides.{nat_tests}
 use Rattle.std.specs.Prelude.{IfOk, IfSome, IsTrue}
 use Rattle.std.specs.List.{All, AllByRecursion, slice_get}
@@ -26,6 +26,7 @@ use Rattle.rule_types.specs.declared.stop.Stop.{Stop}
 use Rattle.rule_types.specs.Fitting.{LinkFits, FitsRules}
 use Rattle.rule_types.specs.Reading.{branch_actions}
 use Rattle.rule_types.specs.Tables.{TableSet, CurveTable, SeriesTable, curve_at, series_at}
+use Rattle.rule_types.specs.declared.names.NameDef.{NameDef}
 use Rattle.rule_types.specs.WellFormed.{has_rate, WhatFits, RuleFits, WellFormed}
 use Rattle.rule_meaning.specs.State.{beside, link_state}
 use Rattle.rule_meaning.specs.Lines.{series_x}
@@ -136,15 +137,15 @@ action_ordered x tables s memory conditions link (Some action) h fits on =
     (worth_ordered x tables s memory conditions action h fits)
 
 -- the actions of well formed rules
-branch_fits : (names : ℕ) (rule : Rule) (branch : Branch) (k : ℕ) → RuleFits names rule → IfSome (slice_get (branch_actions rule branch) k) (λ action. WhatFits action.what)
+branch_fits : (names : List NameDef) (rule : Rule) (branch : Branch) (k : ℕ) → RuleFits names rule → IfSome (slice_get (branch_actions rule branch) k) (λ action. WhatFits action.what)
 branch_fits names rule Then k h = got (λ action. WhatFits action.what) rule.then_actions k h.then_values
 branch_fits names rule Otherwise k h = got (λ action. WhatFits action.what) rule.else_actions k h.else_values
 
-place_fits : (names : ℕ) (at : ActionAt) (o : Option Rule) → IfSome o (RuleFits names) → IfSome (branch_action at o) (λ action. WhatFits action.what)
+place_fits : (names : List NameDef) (at : ActionAt) (o : Option Rule) → IfSome o (RuleFits names) → IfSome (branch_action at o) (λ action. WhatFits action.what)
 place_fits names at None h = tt
 place_fits names at (Some rule) h = branch_fits names rule at.branch at.action h
 
-action_fits : (names : ℕ) (rules : List Rule) (at : ActionAt) → All (RuleFits names) rules → IfSome (action_at rules at) (λ action. WhatFits action.what)
+action_fits : (names : List NameDef) (rules : List Rule) (at : ActionAt) → All (RuleFits names) rules → IfSome (action_at rules at) (λ action. WhatFits action.what)
 unfolding action_at
 action_fits names rules at h = place_fits names at (slice_get rules at.rule) (got (RuleFits names) rules at.rule h)
 
@@ -153,19 +154,19 @@ order_by : (x : Rules) (link : ℕ) (at : ActionAt) (r : Result Rational Overflo
 order_by x link at (Ok q) h = record { least = h.0; most = h.1 }
 order_by x link at (Err why) h = tt
 
-order_fits : (x : Rules) (tables : TableSet) (s : State) (memory : ℕ → PidMemory) (link : ℕ) (at : ActionAt) → AllByRecursion LinkFits s.links → All (RuleFits (length x.names)) x.rules → IsTrue (is_on x.rules link at) → IfOk (order_of x tables s memory link at) (OrderFits x)
+order_fits : (x : Rules) (tables : TableSet) (s : State) (memory : ℕ → PidMemory) (link : ℕ) (at : ActionAt) → AllByRecursion LinkFits s.links → All (RuleFits x.names) x.rules → IsTrue (is_on x.rules link at) → IfOk (order_of x tables s memory link at) (OrderFits x)
 unfolding order_of is_on
 order_fits x tables s memory link at h rules on =
     order_by x link at (action_worth x tables s memory (conditions_at x.rules at) (action_at x.rules at))
-    (action_ordered x tables s memory (conditions_at x.rules at) link (action_at x.rules at) h (action_fits (length x.names) x.rules at rules) on)
+    (action_ordered x tables s memory (conditions_at x.rules at) link (action_at x.rules at) h (action_fits x.names x.rules at rules) on)
 
-then_fits : (x : Rules) (tables : TableSet) (s : State) (memory : ℕ → PidMemory) (link : ℕ) (taken : Option ActionAt) (later : Result (List Order) Stop) → AllByRecursion LinkFits s.links → All (RuleFits (length x.names)) x.rules → IfSome taken (λ at. IsTrue (is_on x.rules link at)) → IfOk later (AllByRecursion (OrderFits x)) → IfOk (order_then x tables s memory link taken later) (AllByRecursion (OrderFits x))
+then_fits : (x : Rules) (tables : TableSet) (s : State) (memory : ℕ → PidMemory) (link : ℕ) (taken : Option ActionAt) (later : Result (List Order) Stop) → AllByRecursion LinkFits s.links → All (RuleFits x.names) x.rules → IfSome taken (λ at. IsTrue (is_on x.rules link at)) → IfOk later (AllByRecursion (OrderFits x)) → IfOk (order_then x tables s memory link taken later) (AllByRecursion (OrderFits x))
 then_fits x tables s memory link None later h rules on more = more
 then_fits x tables s memory link (Some at) later h rules on more =
     chain (OrderFits x) (AllByRecursion (OrderFits x)) (order_of x tables s memory link at) _ (order_fits x tables s memory link at h rules on) (λ first first_fits.
     chain (AllByRecursion (OrderFits x)) (AllByRecursion (OrderFits x)) later _ more (λ rest rest_fit. (first_fits, rest_fit)))
 
-orders_fit : (choice : Choice) (x : Rules) (tables : TableSet) (s : State) (memory : ℕ → PidMemory) (links : List ℕ) → AllByRecursion LinkFits s.links → All (RuleFits (length x.names)) x.rules → ((link : ℕ) → IfSome (choice s link) (λ at. IsTrue (is_on x.rules link at))) → IfOk (orders_on choice x tables s memory links) (AllByRecursion (OrderFits x))
+orders_fit : (choice : Choice) (x : Rules) (tables : TableSet) (s : State) (memory : ℕ → PidMemory) (links : List ℕ) → AllByRecursion LinkFits s.links → All (RuleFits x.names) x.rules → ((link : ℕ) → IfSome (choice s link) (λ at. IsTrue (is_on x.rules link at))) → IfOk (orders_on choice x tables s memory links) (AllByRecursion (OrderFits x))
 unfolding orders_on
 orders_fit choice x tables s memory [] h rules on = tt
 orders_fit choice x tables s memory (link ∷ links) h rules on =
@@ -184,7 +185,7 @@ settling_on : (x : Rules) (s : State) (link : ℕ) → IfSome (settling x s link
 unfolding settling
 settling_on x s link = settled_is_on x.rules (listed x s) link (settled_on x.rules (listed x s) link) refl
 
-pub reading_fits : (x : Rules) (tables : TableSet) (older : List State) (s : State) → All (RuleFits (length x.names)) x.rules → AllByRecursion LinkFits s.links → IfOk (reading x tables older s) (AllByRecursion (OrderFits x))
+pub reading_fits : (x : Rules) (tables : TableSet) (older : List State) (s : State) → All (RuleFits x.names) x.rules → AllByRecursion LinkFits s.links → IfOk (reading x tables older s) (AllByRecursion (OrderFits x))
 reading_fits x tables older s rules h =
     let memory = memory_by (settling x) x tables older in
     either (AllByRecursion (OrderFits x)) (is_due x.rule_step older s) (read_by (settling x) x tables s memory) (Ok [])

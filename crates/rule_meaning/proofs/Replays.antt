@@ -18,7 +18,7 @@ use Rattle.rule_types.specs.declared.stop.Stop.{Stop}
 use Rattle.rule_types.specs.Tables.{TableSet}
 use Rattle.rule_types.specs.Fitting.{IsStep, LinkFits, FitsRules}
 use Rattle.rule_types.specs.WellFormed.{IsRoutingStep, has_rate, WellFormed}
-use Rattle.rule_types.proofs.Opened.{orders_of, times_of}
+use Rattle.rule_types.proofs.Cited.{opened-orders, opened-times}
 use Rattle.rule_meaning.specs.Clock.{hours_of}
 use Rattle.rule_meaning.specs.State.{beside}
 use Rattle.rule_meaning.specs.Worth.{rate_or_zero, rate_of}
@@ -254,7 +254,7 @@ own_rates : (x : Rules) → WellFormed x → AllZip (λ link rate. rate_of x lin
 unfolding rate_of
 own_rates x rules =
     zip_map (λ link. Unit {0}) (λ link rate. beside (λ other. link == other) x.tracked x.rates ≡ Some rate) (λ link rate. rate_of x link ≡ rate) x.tracked x.rates
-    (λ link rate some is. ap rate_or_zero is) (each_unit x.tracked) (all_beside x.tracked x.rates (orders_of x rules.orders).tracked rules.rates)
+    (λ link rate some is. ap rate_or_zero is) (each_unit x.tracked) (all_beside x.tracked x.rates (opened-orders x rules.orders).tracked rules.rates)
 
 -- ---- the states
 abbrev LinksHeld : Rules → State → Type 0
@@ -302,7 +302,7 @@ record Sound (x : Rules) (tables : TableSet) (states : List State) : Type 0 wher
 
 first_sound : (x : Rules) (tables : TableSet) → WellFormed x → Sound x tables []
 first_sound x tables rules =
-    let times = times_of x rules.bounds in
+    let times = opened-times x rules.bounds in
     record {
       fit = tt;
       held = tt;
@@ -325,7 +325,7 @@ new_fits x tables states older row rules fits before h =
       links = AllZip-long LinkHeld x.rates s.links links ∙ rules.rates;
       link_values = all LinkFits s.links (links_fit x.rates s.links links timers);
       at_target = at_targets x.rates s.links links;
-      step = step_fits x.routing_step (last_due x.rule_step states) row.moment (times_of x rules.bounds).routing_step fits.moment.late (last_due_before x.rule_step states row.moment before);
+      step = step_fits x.routing_step (last_due x.rule_step states) row.moment (opened-times x rules.bounds).routing_step fits.moment.late (last_due_before x.rule_step states row.moment before);
     }
 
 next_sound : (x : Rules) (tables : TableSet) (states : List State) (s : State) → WellFormed x → FitsRules x s → LinksHeld x s → Sound x tables states → Sound x tables (s ∷ states)

@@ -6,7 +6,8 @@ use Rattle.std.specs.Cmp.Lexicographic.{pointwise}
 use Rattle.std.proofs.Common.{ap, rules}
 use Rattle.std.proofs.lemmas.Bool.Decides.{Decides-like, Decides-and, Decides-eqb}
 use Rattle.std.proofs.lemmas.Slice.Eq.{slice_eq-Decides}
-use Rattle.rule_types.proofs.EqualParts.{Frac-sames, Moment-sames, Relation-sames, Option-sames}
+use Rattle.exact_fraction.proofs.Cited.{equality-fraction, equality-moment, equality-relation}
+use Rattle.rule_types.proofs.EqualParts.{Option-sames}
 use Rattle.rule_types.proofs.SameFormula.{Expr-sames}
 use Rattle.rule_types.proofs.KeyPlaces.{key_place-injective}
 use Rattle.rule_types.specs.KeyOrder.{key_place}
@@ -85,11 +86,6 @@ use Rattle.rule_types.specs.contracts.refusal.ReadFaultPartialEq.TheImpl as Read
 use Rattle.rule_types.specs.declared.refusal.ReadFault.TheVariants as fault
 use Rattle.rule_types.specs.declared.refusal.AddFault.{AddFault}
 use Rattle.rule_types.specs.contracts.refusal.AddFaultPartialEq.TheImpl as AddFaultEq
-use Rattle.rule_types.specs.declared.interval.Bound.{Bound}
-use Rattle.rule_types.specs.contracts.interval.BoundPartialEq.TheImpl as BoundEq
-use Rattle.rule_types.specs.declared.interval.Bound.TheVariants as bound
-use Rattle.rule_types.specs.declared.interval.Interval.{Interval}
-use Rattle.rule_types.specs.contracts.interval.IntervalPartialEq.TheImpl as IntervalEq
 
 pub Space-sames : (a b : Space) → Decides (SpaceEq.eq-value.it a b) (a ≡ b)
 Space-sames a b = search rules
@@ -124,7 +120,7 @@ Side-sames a b = search rules
 
 pub Right-sames : (a b : Right) → Decides (RightEq.eq-value.it a b) (a ≡ b)
 Right-sames (right.Key x) (right.Key y) = Decides-like _ (ap right.Key) (λ e. cc) (Key-sames x y)
-Right-sames (right.Value x) (right.Value y) = Decides-like _ (ap right.Value) (λ e. cc) (Frac-sames x y)
+Right-sames (right.Value x) (right.Value y) = Decides-like _ (ap right.Value) (λ e. cc) (equality-fraction x y)
 Right-sames a b = search rules
 
 pub Condition-sames : (a b : Condition) → Decides (ConditionEq.eq-value.it a b) (a ≡ b)
@@ -132,7 +128,7 @@ Condition-sames a b =
     Decides-like (ConditionEq.eq-value.it a b)
     (λ p i. record { left = p.0 i; rel = p.1.0 i; right = p.1.1.0 i; half_step = p.1.1.1.0 i; joined_by_and = p.1.1.1.1 i })
     (λ e. (ap (λ (x : Condition). x.left) e, (ap (λ (x : Condition). x.rel) e, (ap (λ (x : Condition). x.right) e, (ap (λ (x : Condition). x.half_step) e, ap (λ (x : Condition). x.joined_by_and) e)))))
-    (Decides-and _ _ (Side-sames a.left b.left) (Decides-and _ _ (Relation-sames a.rel b.rel) (Decides-and _ _ (Right-sames a.right b.right) (Decides-and _ _ (booleans_Decides a.half_step b.half_step) (booleans_Decides a.joined_by_and b.joined_by_and)))))
+    (Decides-and _ _ (Side-sames a.left b.left) (Decides-and _ _ (equality-relation a.rel b.rel) (Decides-and _ _ (Right-sames a.right b.right) (Decides-and _ _ (booleans_Decides a.half_step b.half_step) (booleans_Decides a.joined_by_and b.joined_by_and)))))
 
 pub CurveNo-sames : (a b : CurveNo) → Decides (CurveNoEq.eq-value.it a b) (a ≡ b)
 CurveNo-sames a b = search rules
@@ -145,17 +141,17 @@ PidSet-sames a b =
     Decides-like (PidSetEq.eq-value.it a b)
     (λ p i. record { gain = p.0 i; integral = p.1.0 i; derivative = p.1.1 i })
     (λ e. (ap (λ (x : PidSet). x.gain) e, (ap (λ (x : PidSet). x.integral) e, ap (λ (x : PidSet). x.derivative) e)))
-    (Decides-and _ _ (Frac-sames a.gain b.gain) (Decides-and _ _ (Frac-sames a.integral b.integral) (Frac-sames a.derivative b.derivative)))
+    (Decides-and _ _ (equality-fraction a.gain b.gain) (Decides-and _ _ (equality-fraction a.integral b.integral) (equality-fraction a.derivative b.derivative)))
 
 pub PidMemory-sames : (a b : PidMemory) → Decides (PidMemoryEq.eq-value.it a b) (a ≡ b)
 PidMemory-sames a b =
     Decides-like (PidMemoryEq.eq-value.it a b)
     (λ p i. record { e1 = p.0 i; e2 = p.1 i })
     (λ e. (ap (λ (x : PidMemory). x.e1) e, ap (λ (x : PidMemory). x.e2) e))
-    (Decides-and _ _ (Frac-sames a.e1 b.e1) (Frac-sames a.e2 b.e2))
+    (Decides-and _ _ (equality-fraction a.e1 b.e1) (equality-fraction a.e2 b.e2))
 
 pub What-sames : (a b : What) → Decides (WhatEq.eq-value.it a b) (a ≡ b)
-What-sames (what.Constant x) (what.Constant y) = Decides-like _ (ap what.Constant) (λ e. cc) (Frac-sames x y)
+What-sames (what.Constant x) (what.Constant y) = Decides-like _ (ap what.Constant) (λ e. cc) (equality-fraction x y)
 What-sames (what.Curve x) (what.Curve y) = Decides-like _ (ap what.Curve) (λ e. cc) (CurveNo-sames x y)
 What-sames (what.Series x) (what.Series y) = Decides-like _ (ap what.Series) (λ e. cc) (SeriesNo-sames x y)
 What-sames (what.Pid x m) (what.Pid y n) =
@@ -184,14 +180,14 @@ Order-sames a b =
     Decides-like (OrderEq.eq-value.it a b)
     (λ p i. record { link = p.0 i; by = p.1.0 i; value = p.1.1 i })
     (λ e. (ap (λ (x : Order). x.link) e, (ap (λ (x : Order). x.by) e, ap (λ (x : Order). x.value) e)))
-    (Decides-and _ _ (Decides-eqb a.link b.link) (Decides-and _ _ (ActionAt-sames a.by b.by) (Frac-sames a.value b.value)))
+    (Decides-and _ _ (Decides-eqb a.link b.link) (Decides-and _ _ (ActionAt-sames a.by b.by) (equality-fraction a.value b.value)))
 
 pub Rule-sames : (a b : Rule) → Decides (RuleEq.eq-value.it a b) (a ≡ b)
 Rule-sames a b =
     Decides-like (RuleEq.eq-value.it a b)
     (λ p i. record { id = p.0 i; conditions = p.1.0 i; then_actions = p.1.1.0 i; else_actions = p.1.1.1.0 i; priority = p.1.1.1.1 i })
     (λ e. (ap (λ (x : Rule). x.id) e, (ap (λ (x : Rule). x.conditions) e, (ap (λ (x : Rule). x.then_actions) e, (ap (λ (x : Rule). x.else_actions) e, ap (λ (x : Rule). x.priority) e)))))
-    (Decides-and _ _ (slice_eq-Decides Decides-eqb a.id b.id _ refl) (Decides-and _ _ (slice_eq-Decides Condition-sames a.conditions b.conditions _ refl) (Decides-and _ _ (slice_eq-Decides Action-sames a.then_actions b.then_actions _ refl) (Decides-and _ _ (slice_eq-Decides Action-sames a.else_actions b.else_actions _ refl) (Option-sames Frac-sames a.priority b.priority)))))
+    (Decides-and _ _ (slice_eq-Decides Decides-eqb a.id b.id _ refl) (Decides-and _ _ (slice_eq-Decides Condition-sames a.conditions b.conditions _ refl) (Decides-and _ _ (slice_eq-Decides Action-sames a.then_actions b.then_actions _ refl) (Decides-and _ _ (slice_eq-Decides Action-sames a.else_actions b.else_actions _ refl) (Option-sames equality-fraction a.priority b.priority)))))
 
 pub NameKind-sames : (a b : NameKind) → Decides (NameKindEq.eq-value.it a b) (a ≡ b)
 NameKind-sames (kind.Variable x) (kind.Variable y) = Decides-like _ (ap kind.Variable) (λ e. cc) (Key-sames x y)
@@ -210,21 +206,21 @@ Rules-sames a b =
     Decides-like (RulesEq.eq-value.it a b)
     (λ p i. record { rules = p.0 i; names = p.1.0 i; input_keys = p.1.1.0 i; tracked = p.1.1.1.0 i; controlled = p.1.1.1.1.0 i; pumps = p.1.1.1.1.1.0 i; initial = p.1.1.1.1.1.1.0 i; rates = p.1.1.1.1.1.1.1.0 i; start = p.1.1.1.1.1.1.1.1.0 i; routing_step = p.1.1.1.1.1.1.1.1.1.0 i; rule_step = p.1.1.1.1.1.1.1.1.1.1 i })
     (λ e. (ap (λ (x : Rules). x.rules) e, (ap (λ (x : Rules). x.names) e, (ap (λ (x : Rules). x.input_keys) e, (ap (λ (x : Rules). x.tracked) e, (ap (λ (x : Rules). x.controlled) e, (ap (λ (x : Rules). x.pumps) e, (ap (λ (x : Rules). x.initial) e, (ap (λ (x : Rules). x.rates) e, (ap (λ (x : Rules). x.start) e, (ap (λ (x : Rules). x.routing_step) e, ap (λ (x : Rules). x.rule_step) e)))))))))))
-    (Decides-and _ _ (slice_eq-Decides Rule-sames a.rules b.rules _ refl) (Decides-and _ _ (slice_eq-Decides NameDef-sames a.names b.names _ refl) (Decides-and _ _ (slice_eq-Decides Key-sames a.input_keys b.input_keys _ refl) (Decides-and _ _ (slice_eq-Decides Decides-eqb a.tracked b.tracked _ refl) (Decides-and _ _ (slice_eq-Decides Decides-eqb a.controlled b.controlled _ refl) (Decides-and _ _ (slice_eq-Decides booleans_Decides a.pumps b.pumps _ refl) (Decides-and _ _ (slice_eq-Decides Frac-sames a.initial b.initial _ refl) (Decides-and _ _ (slice_eq-Decides Frac-sames a.rates b.rates _ refl) (Decides-and _ _ (Option-sames Moment-sames a.start b.start) (Decides-and _ _ (Frac-sames a.routing_step b.routing_step) (Frac-sames a.rule_step b.rule_step)))))))))))
+    (Decides-and _ _ (slice_eq-Decides Rule-sames a.rules b.rules _ refl) (Decides-and _ _ (slice_eq-Decides NameDef-sames a.names b.names _ refl) (Decides-and _ _ (slice_eq-Decides Key-sames a.input_keys b.input_keys _ refl) (Decides-and _ _ (slice_eq-Decides Decides-eqb a.tracked b.tracked _ refl) (Decides-and _ _ (slice_eq-Decides Decides-eqb a.controlled b.controlled _ refl) (Decides-and _ _ (slice_eq-Decides booleans_Decides a.pumps b.pumps _ refl) (Decides-and _ _ (slice_eq-Decides equality-fraction a.initial b.initial _ refl) (Decides-and _ _ (slice_eq-Decides equality-fraction a.rates b.rates _ refl) (Decides-and _ _ (Option-sames equality-moment a.start b.start) (Decides-and _ _ (equality-fraction a.routing_step b.routing_step) (equality-fraction a.rule_step b.rule_step)))))))))))
 
 pub LinkState-sames : (a b : LinkState) → Decides (LinkStateEq.eq-value.it a b) (a ≡ b)
 LinkState-sames a b =
     Decides-like (LinkStateEq.eq-value.it a b)
     (λ p i. record { setting = p.0 i; target = p.1.0 i; timer = p.1.1 i })
     (λ e. (ap (λ (x : LinkState). x.setting) e, (ap (λ (x : LinkState). x.target) e, ap (λ (x : LinkState). x.timer) e)))
-    (Decides-and _ _ (Frac-sames a.setting b.setting) (Decides-and _ _ (Frac-sames a.target b.target) (Frac-sames a.timer b.timer)))
+    (Decides-and _ _ (equality-fraction a.setting b.setting) (Decides-and _ _ (equality-fraction a.target b.target) (equality-fraction a.timer b.timer)))
 
 pub State-sames : (a b : State) → Decides (StateEq.eq-value.it a b) (a ≡ b)
 State-sames a b =
     Decides-like (StateEq.eq-value.it a b)
     (λ p i. record { moment = p.0 i; start = p.1.0 i; step = p.1.1.0 i; inputs = p.1.1.1.0 i; links = p.1.1.1.1 i })
     (λ e. (ap (λ (x : State). x.moment) e, (ap (λ (x : State). x.start) e, (ap (λ (x : State). x.step) e, (ap (λ (x : State). x.inputs) e, ap (λ (x : State). x.links) e)))))
-    (Decides-and _ _ (Moment-sames a.moment b.moment) (Decides-and _ _ (Moment-sames a.start b.start) (Decides-and _ _ (Frac-sames a.step b.step) (Decides-and _ _ (slice_eq-Decides (Option-sames Frac-sames) a.inputs b.inputs _ refl) (slice_eq-Decides LinkState-sames a.links b.links _ refl)))))
+    (Decides-and _ _ (equality-moment a.moment b.moment) (Decides-and _ _ (equality-moment a.start b.start) (Decides-and _ _ (equality-fraction a.step b.step) (Decides-and _ _ (slice_eq-Decides (Option-sames equality-fraction) a.inputs b.inputs _ refl) (slice_eq-Decides LinkState-sames a.links b.links _ refl)))))
 
 pub StopCause-sames : (a b : StopCause) → Decides (StopCauseEq.eq-value.it a b) (a ≡ b)
 StopCause-sames a b = search rules
@@ -267,17 +263,5 @@ ReadFault-sames a b = search rules
 pub AddFault-sames : (a b : AddFault) → Decides (AddFaultEq.eq-value.it a b) (a ≡ b)
 AddFault-sames a b = search rules
 
-pub Bound-sames : (a b : Bound) → Decides (BoundEq.eq-value.it a b) (a ≡ b)
-Bound-sames (bound.Bound x m) (bound.Bound y n) =
-    Decides-like _ (λ p i. bound.Bound (p.0 i) (p.1 i)) (λ e. (cc, cc)) (Decides-and _ _ (Frac-sames x y) (booleans_Decides m n))
-Bound-sames a b = search rules
-
-pub Interval-sames : (a b : Interval) → Decides (IntervalEq.eq-value.it a b) (a ≡ b)
-Interval-sames a b =
-    Decides-like (IntervalEq.eq-value.it a b)
-    (λ p i. record { low = p.0 i; high = p.1 i })
-    (λ e. (ap (λ (x : Interval). x.low) e, ap (λ (x : Interval). x.high) e))
-    (Decides-and _ _ (Bound-sames a.low b.low) (Bound-sames a.high b.high))
-
 -- what `==` says of each type, for a caller's `using`
-pub ruleset sames = (Frac-sames, Moment-sames, Relation-sames, Expr-sames, Space-sames, ObjectKind-sames, ObjectWord-sames, ObjectNo-sames, Attr-sames, ClockAttr-sames, Key-sames, Side-sames, Right-sames, Condition-sames, CurveNo-sames, SeriesNo-sames, PidSet-sames, PidMemory-sames, What-sames, Action-sames, Branch-sames, ActionAt-sames, Order-sames, Rule-sames, NameKind-sames, NameDef-sames, Rules-sames, LinkState-sames, State-sames, StopCause-sames, StopPlace-sames, Stop-sames, ReadingEnd-sames, RowStop-sames, Cause-sames, Refusal-sames, ReadFault-sames, AddFault-sames, Bound-sames, Interval-sames)
+pub ruleset sames = (equality-fraction, equality-moment, equality-relation, Expr-sames, Space-sames, ObjectKind-sames, ObjectWord-sames, ObjectNo-sames, Attr-sames, ClockAttr-sames, Key-sames, Side-sames, Right-sames, Condition-sames, CurveNo-sames, SeriesNo-sames, PidSet-sames, PidMemory-sames, What-sames, Action-sames, Branch-sames, ActionAt-sames, Order-sames, Rule-sames, NameKind-sames, NameDef-sames, Rules-sames, LinkState-sames, State-sames, StopCause-sames, StopPlace-sames, Stop-sames, ReadingEnd-sames, RowStop-sames, Cause-sames, Refusal-sames, ReadFault-sames, AddFault-sames)

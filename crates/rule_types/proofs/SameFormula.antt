@@ -10,7 +10,7 @@ use Rattle.rule_types.specs.declared.expr.Expr.TheViews.{roll-Expr, out-Expr, ro
 use Rattle.rule_types.specs.contracts.expr.ExprPartialEq.TheImpl as ExprEq
 use Rattle.rule_types.specs.contracts.expr.ExprPartialEq.TheImpl.Laws as partial
 use Rattle.rule_types.specs.contracts.expr.ExprEq.TheImpl.Laws as laws
-use Rattle.rule_types.proofs.EqualParts.{Frac-sames}
+use Rattle.exact_fraction.proofs.Cited.{equality-fraction}
 
 -- `==` on `a` is true at `a` alone
 abbrev Told : Expr → Type 0
@@ -22,7 +22,7 @@ both x y h = grind arith
 -- at one node, from its operands
 told_node : (y : Expr-F ((e : Expr) × Told e)) (z : Expr-F Expr) → partial.unfolded (roll-Expr (map-Expr ((e : Expr) × Told e) Expr (λ e. e.0) y)) (roll-Expr z) ≡ true → roll-Expr (map-Expr ((e : Expr) × Told e) Expr (λ e. e.0) y) ≡ roll-Expr z
 unfolding out-Expr roll-Expr denote.Hole.Carrier.out denote.Hole.Carrier.roll Rattle.rule_types.specs.declared.expr.Expr.TheBlock.shown-the_row-Expr-0 denote.Hole.Carrier.shown denote.Hole.Carrier.hidden
-told_node (Expr-F.Number q) (Expr-F.Number r) h = λ i. roll-Expr (Expr-F.Number ((Frac-sames q r).0 h i))
+told_node (Expr-F.Number q) (Expr-F.Number r) h = λ i. roll-Expr (Expr-F.Number ((equality-fraction q r).0 h i))
 told_node (Expr-F.Name m) (Expr-F.Name n) h = λ i. roll-Expr (Expr-F.Name ((Decides-eqb m n).0 h i))
 told_node (Expr-F.Neg a) (Expr-F.Neg b) h = λ i. roll-Expr (Expr-F.Neg (a.1 b h i))
 told_node (Expr-F.Abs a) (Expr-F.Abs b) h = λ i. roll-Expr (Expr-F.Abs (a.1 b h i))

@@ -1,4 +1,4 @@
--- The order of keys: nodes, links, gages, each by number and then by attribute, and then the clock.
+-- The order of keys: nodes, links, gages, each by number and then by attribute, and then the clock (own).
 use Rattle.std.specs.Prelude.{◌≡◌, ℕ, ◌+◌, List, [], ◌∷◌, length}
 use Rattle.std.specs.Ordering.{nat_cmp}
 use Rattle.std.specs.declared.cmp.Ordering.{Ordering}
@@ -20,8 +20,8 @@ space_place Nodes = 0
 space_place Links = 1
 space_place Gages = 2
 
--- the place of an attribute: those of a link, of a node and of a gage each stand in the order of the table of
--- attributes (SWMM 5.2 manual, [CONTROLS])
+-- the place of an attribute: those of a link, of a node and of a gage each stand in the order in which `link_has`, `node_has`
+-- and `gage_has` list them, and HOUR_DEPTH by its hours (own; the attributes are those of the SWMM 5.2 manual, [CONTROLS])
 abbrev pub attribute_place : Attr → ℕ
 attribute_place Flow = 0
 attribute_place FullFlow = 1
@@ -41,7 +41,7 @@ attribute_place TimeClosed = 14
 attribute_place Intensity = 15
 attribute_place (HourDepth hours) = hours + 16
 
--- the place of an attribute of the clock, in the order of that table
+-- the place of an attribute of the clock (own; the attributes are those of the SWMM 5.2 manual, [CONTROLS])
 abbrev pub clock_place : ClockAttr → ℕ
 clock_place Time = 0
 clock_place Date = 1

@@ -8,7 +8,7 @@ use Rattle.rule_types.specs.declared.key.ClockAttr.TheVariants.{Time, ClockTime}
 use Rattle.rule_types.specs.declared.key.Key.{Key}
 use Rattle.rule_types.specs.declared.key.Key.TheVariants.{Object, Clock}
 
--- the attributes of a node (SWMM 5.2 manual, [CONTROLS])
+-- the attributes of a node (own; the attributes are those of the SWMM 5.2 manual, [CONTROLS])
 abbrev pub node_has : Attr → Bool
 node_has Depth = true
 node_has MaxDepth = true
@@ -18,7 +18,7 @@ node_has Volume = true
 node_has Inflow = true
 node_has attribute = false
 
--- the attributes of a link (SWMM 5.2 manual, [CONTROLS])
+-- the attributes of a link (own; the attributes are those of the SWMM 5.2 manual, [CONTROLS])
 abbrev pub link_has : Attr → Bool
 link_has Flow = true
 link_has FullFlow = true
@@ -34,19 +34,20 @@ link_has TimeOpen = true
 link_has TimeClosed = true
 link_has attribute = false
 
--- the attributes of a gage, with the rainfall of the last 1 to 48 hours (SWMM 5.2 manual, [CONTROLS])
+-- the attributes of a gage, with the rainfall of the last 1 to 48 hours (own; the attributes are those of the SWMM 5.2
+-- manual, [CONTROLS])
 abbrev pub gage_has : Attr → Bool
 gage_has Intensity = true
 gage_has (HourDepth hours) = nat_le 1 hours && nat_le hours 48
 gage_has attribute = false
 
--- whether the objects of a space have an attribute
+-- whether the objects of a space have an attribute (own)
 abbrev pub has_attribute : Space → Attr → Bool
 has_attribute Nodes attribute = node_has attribute
 has_attribute Links attribute = link_has attribute
 has_attribute Gages attribute = gage_has attribute
 
--- whether a key's object can have the key's attribute
+-- whether a key's object can have the key's attribute (own)
 abbrev pub is_key : Key → Bool
 is_key (Object object attribute) = has_attribute object.space attribute
 is_key (Clock attribute) = true
@@ -59,7 +60,7 @@ is_link_state TimeOpen = true
 is_link_state TimeClosed = true
 is_link_state attribute = false
 
--- whether a key's value comes from the trace (own)
+-- whether a key's value comes from the trace, and neither from the clock nor from a link's setting and timer (own)
 abbrev pub is_input : Key → Bool
 is_input (Object object attribute) = not (is_link_state attribute)
 is_input (Clock attribute) = false

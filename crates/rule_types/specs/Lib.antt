@@ -1,4 +1,6 @@
 pub mod Causes
+pub mod Equality
+pub mod Examples
 pub mod Finding
 pub mod Fitting
 pub mod Formulas

@@ -59,6 +59,15 @@ abbrev pub is_variable : Option NameDef → Bool
 is_variable None = false
 is_variable (Some named) = is_variable_kind named.stands_for
 
+-- whether a name is an expression (own)
+abbrev pub is_formula_kind : NameKind → Bool
+is_formula_kind (Variable key) = false
+is_formula_kind (Formula formula) = true
+
+abbrev pub is_formula : Option NameDef → Bool
+is_formula None = false
+is_formula (Some named) = is_formula_kind named.stands_for
+
 -- the keys that a name reads: a variable its key, an expression those of its variables (own)
 abbrev pub variable_keys : List NameDef → ℕ → List Key
 variable_keys names name = at_name kind_key (slice_get names name)

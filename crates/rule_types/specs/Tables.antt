@@ -1,5 +1,5 @@
 -- Curves and series as data.
-use Rattle.std.specs.Prelude.{ℕ, ◌<◌, Bool, Option, Some, None, List, length, slice_get, IsSome, All}
+use Rattle.std.specs.Prelude.{ℕ, ◌<◌, Bool, Option, Some, None, List, length, slice_get, IsSomeAnd, All}
 use Rattle.std.specs.List.{AllAdjacentBelow}
 use Rattle.exact_fraction.specs.Number.{Rational}
 use Rattle.exact_fraction.specs.Order.{◌<ℚ◌}
@@ -47,13 +47,13 @@ pub record IsPointList (points : List Point) : Type 0 where
   pub pointed : 0 < length points
   pub rising : AllAdjacentBelow (λ p q. p.x <ℚ q.x) points (length points)
 
--- the table that an action names is held (own)
+-- the table that an action names is held, with points that a table can have (own)
 abbrev pub HoldsTableOf : TableSet → What → Type 0
 HoldsTableOf tables (Constant q) = Unit {0}
-HoldsTableOf tables (Curve number) = IsSome (curve_at tables number.index)
-HoldsTableOf tables (Series number) = IsSome (series_at tables number.index)
+HoldsTableOf tables (Curve number) = IsSomeAnd (curve_at tables number.index) (λ table. IsPointList table.points)
+HoldsTableOf tables (Series number) = IsSomeAnd (series_at tables number.index) (λ table. IsPointList table.points)
 HoldsTableOf tables (Pid set number) = Unit {0}
 
--- tables hold every curve and series that rules name (own)
+-- tables hold every curve and series that rules name, each with points that a table can have (own)
 abbrev pub HoldsTables : TableSet → List Rule → Type 0
 HoldsTables tables = All (λ rule. All (λ action. HoldsTableOf tables action.what) (rule_actions rule))

@@ -26,7 +26,7 @@ use Rattle.rule_types.specs.declared.rules.Rules.{Rules}
 use Rattle.rule_types.specs.Formulas.{levels, names_pass, has_small_exponents}
 use Rattle.rule_types.specs.KeyOrder.{IsInKeyOrder}
 use Rattle.rule_types.specs.Keys.{is_key, is_input, is_time}
-use Rattle.rule_types.specs.Reading.{is_variable, name_keys, pid_numbers, pid_count}
+use Rattle.rule_types.specs.Reading.{is_variable, is_formula, name_keys, pid_numbers, pid_count}
 
 -- a multiple of 10^-9: in lowest terms the denominator divides 10^9 (own)
 pub record IsMultipleOfBillionth (q : Rational) : Type 0 where
@@ -76,18 +76,19 @@ pub record IsHalfStep (c : Condition) : Type 0 where
   pub time : IsTrue (is_time_side c.left)
   pub value : IsTimeRight c.right
 
--- the left side is a key that its object can have, or one of so many names (own)
-abbrev pub SideFits : ℕ → Side → Type 0
+-- the left side is a key that its object can have, or the place of an expression among the names: a variable on a side is
+-- its key (own)
+abbrev pub SideFits : List NameDef → Side → Type 0
 SideFits names (side.Key key) = IsTrue (is_key key)
-SideFits names (side.Expr name) = name < names
+SideFits names (side.Expr name) = IsTrue (is_formula (slice_get names name))
 
 -- the right side is a key that its object can have, or a number (own)
 abbrev pub RightFits : Right → Type 0
 RightFits (right.Key key) = IsTrue (is_key key)
 RightFits (right.Value q) = Unit {0}
 
--- a condition by itself, where there are so many names (own)
-pub record ConditionFits (names : ℕ) (c : Condition) : Type 0 where
+-- a condition by itself, over these names (own)
+pub record ConditionFits (names : List NameDef) (c : Condition) : Type 0 where
   pub left : SideFits names c.left
   pub right : RightFits c.right
   pub half_step : IsTrue c.half_step → IsHalfStep c
@@ -108,8 +109,8 @@ IsOpened (c ∷ more) = IsTrue c.joined_by_and
 abbrev pub IsCountable : {A : Type 0} → List A → Type 0
 IsCountable xs = length xs < 2 ^ 32
 
--- a rule by itself, where there are so many names: it has conditions, the first joined by AND, and actions (own)
-pub record RuleFits (names : ℕ) (rule : Rule) : Type 0 where
+-- a rule by itself, over these names: it has conditions, the first joined by AND, and actions (own)
+pub record RuleFits (names : List NameDef) (rule : Rule) : Type 0 where
   pub opened : IsOpened rule.conditions
   pub acting : 0 < length rule.then_actions + length rule.else_actions
   pub conditions : All (ConditionFits names) rule.conditions
@@ -224,13 +225,19 @@ pub record Times (x : Rules) : Type 0 where
 unfoldable pub InBounds : Rules → Type 0
 InBounds x = Times x
 
+-- an input key is a key that its object can have, and its value comes from the trace: SIMULATION, SETTING, STATUS, TIMEOPEN
+-- and TIMECLOSED have none (own)
+pub record IsInputKey (key : Key) : Type 0 where
+  pub known : IsTrue (is_key key)
+  pub traced : IsTrue (is_input key)
+
 -- Rules that every call which takes rules asks for (own).
 pub record WellFormed (x : Rules) : Type 0 where
-  pub rules : All (RuleFits (length x.names)) x.rules
+  pub rules : All (RuleFits x.names) x.rules
   pub names : NamesFit x.names
   -- what is read and acted on is listed
   pub listed : All (RuleListed x.names x.input_keys x.tracked x.controlled) x.rules
-  pub inputs : All (λ key. IsTrue (is_key key)) x.input_keys
+  pub inputs : All IsInputKey x.input_keys
   pub controlled : All (StandsIn x.tracked) x.controlled
   pub orders : InOrder x
   pub pids : PidsNumbered x.rules

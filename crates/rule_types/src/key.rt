@@ -4,7 +4,7 @@ ghost use Rattle.std.specs.Prelude.{◌≡◌, ◌↔◌, ◌+◌, IsTrue};
 use crate::object::ObjectNo;
 use std::cmp::Ordering;
 
-/// An attribute of the simulation's clock (SWMM 5.2 manual, [CONTROLS]).
+/// An attribute of the simulation's clock (own; the attributes are those of the SWMM 5.2 manual, [CONTROLS]).
 #[derive(Clone, Copy, Debug, PartialEq, Eq)]
 pub enum ClockAttr {
     /// Hours since the start.
@@ -39,7 +39,7 @@ impl ClockAttr {
     }
 }
 
-/// An attribute of an object (SWMM 5.2 manual, [CONTROLS]).
+/// An attribute of an object (own; the attributes are those of the SWMM 5.2 manual, [CONTROLS]).
 #[derive(Clone, Copy, Debug, PartialEq, Eq)]
 pub enum Attr {
     /// A gage's rainfall intensity.
@@ -154,8 +154,7 @@ impl Eq for Key {
     ghost laws = { on_equiv key_place nat_list_eq_equiv };
 }
 
-/// Key order: nodes, links and gages, each by number and then by attribute in the order of the manual's table, and then
-/// the clock (own).
+/// Key order: nodes, links and gages, each by number and then by attribute, and then the clock (own).
 impl Ord for Key {
     ghost use Rattle.rule_types.specs.KeyOrder.{key_place, key_cmp};
     ghost use Rattle.std.specs.Prelude.{refl};

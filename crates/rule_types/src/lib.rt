@@ -5,8 +5,8 @@
 mod action;
 mod condition;
 mod expr;
-mod interval;
 mod key;
+pub mod laws;
 mod names;
 mod object;
 mod refusal;
@@ -18,7 +18,6 @@ mod stop;
 pub use action::{Action, ActionAt, Branch, CurveNo, Order, PidMemory, PidSet, SeriesNo, What};
 pub use condition::{Condition, Right, Side};
 pub use expr::Expr;
-pub use interval::{Bound, Interval};
 pub use key::{Attr, ClockAttr, Key};
 pub use names::{NameDef, NameKind};
 pub use object::{ObjectKind, ObjectNo, ObjectWord, Space};

@@ -89,3 +89,23 @@ impl Clone for Refusal {
         })
     }
 }
+
+#[cfg(test)]
+mod tests {
+    use super::*;
+    use list_types::Items;
+
+    #[test]
+    fn a_copy_equals_its_refusal(rt: HostRuntime) -> Result<(), AllocError> {
+        let refusal = Refusal {
+            line: 12,
+            cause: Cause::UnknownObject,
+            token: Items::from_vec(vec![in rt.alloc(); b'P', b'1']?),
+        };
+        let copy = refusal.clone()?;
+        assert!(rt; copy.is_same(&refusal));
+        assert!(rt; copy.cause.number() == 9);
+        assert!(rt; copy.token.len() == 2);
+        Ok(())
+    }
+}

@@ -81,13 +81,16 @@ impl Rules {
 #[cfg(test)]
 mod tests {
     use super::*;
+    use crate::action::{Action, What};
+    use crate::condition::{Condition, Right, Side};
     use crate::expr::Expr;
     use crate::names::NameKind;
+    use exact_fraction::relation::Relation;
     use list_types::Boxed;
 
-    // The expression `b` for `-a`, where `a` is the first name.
+    // The expression `b` for `-1`.
     fn expression(alloc: Global) -> Result<NameDef, AllocError> {
-        let formula = Expr::Neg(Boxed::new(alloc, Expr::Name(0))?);
+        let formula = Expr::Neg(Boxed::new(alloc, Expr::Number(Frac::one()))?);
         let name = Items::from_vec(vec![in alloc; b'b']?);
         Ok(NameDef {
             name,
@@ -95,14 +98,48 @@ mod tests {
         })
     }
 
-    // Rules of these names alone.
-    fn rules_of(alloc: Global, names: Items<NameDef>, controlled: Items<u32>) -> Rules {
+    // The condition `b < 0`.
+    fn negative() -> Condition {
+        Condition {
+            left: Side::Expr(0),
+            rel: Relation::Lt,
+            right: Right::Value(Frac::zero()),
+            half_step: false,
+            joined_by_and: true,
+        }
+    }
+
+    // The action that sets link 0 to a number.
+    fn set_link(number: Frac) -> Action {
+        Action {
+            link: 0,
+            what: What::Constant(number),
+        }
+    }
+
+    // RULE R, IF the expression is negative, THEN link 0 is 1, ELSE it is 0, PRIORITY 1.
+    fn full_rule(alloc: Global) -> Result<Rule, AllocError> {
+        let id = Items::from_vec(vec![in alloc; b'R']?);
+        let conditions = Items::from_vec(vec![in alloc; negative()]?);
+        let then_actions = Items::from_vec(vec![in alloc; set_link(Frac::one())]?);
+        let else_actions = Items::from_vec(vec![in alloc; set_link(Frac::zero())]?);
+        Ok(Rule {
+            id,
+            conditions,
+            then_actions,
+            else_actions,
+            priority: Some(Frac::one()),
+        })
+    }
+
+    // These rules with these names.
+    fn rules_of(alloc: Global, rules: Items<Rule>, names: Items<NameDef>) -> Rules {
         Rules {
-            rules: Items::new(alloc),
+            rules,
             names,
             input_keys: Items::new(alloc),
             tracked: Items::new(alloc),
-            controlled,
+            controlled: Items::new(alloc),
             pumps: Items::new(alloc),
             initial: Items::new(alloc),
             rates: Items::new(alloc),
@@ -115,11 +152,13 @@ mod tests {
     #[test]
     fn a_copy_equals_its_rules(rt: HostRuntime) -> Result<(), AllocError> {
         let names = Items::from_vec(vec![in rt.alloc(); expression(rt.alloc())?]?);
-        let rules = rules_of(rt.alloc(), names, Items::new(rt.alloc()));
+        let listed = Items::from_vec(vec![in rt.alloc(); full_rule(rt.alloc())?]?);
+        let rules = rules_of(rt.alloc(), listed, names);
         let Ok(copy) = rules.copy(rt.alloc()) else {
             return Err(AllocError);
         };
         assert!(rt; copy.is_same(&rules));
+        assert!(rt; copy.rules.len() == 1);
         assert!(rt; copy.names.len() == 1);
         Ok(())
     }
