@@ -15,6 +15,7 @@ use Rattle.num_text.proofs.Tens.{significand_is}
 pub use Rattle.num_text.proofs.RoundTrips.{moment_of-written as round_trips-moment}
 pub use Rattle.num_text.proofs.ValueTrips.{value_back as round_trips-value}
 pub use Rattle.num_text.proofs.Within.{time-bounds as readings-time, hours-bounds as readings-hours, step-bounds as readings-step, routing_step-bounds as readings-routing_step}
+pub use Rattle.num_text.proofs.Years.{date_told as calendar-date, date_number as calendar-number}
 pub use Rattle.num_text.proofs.Numerals.{count_of-decimal as counts-back, count-written as counts-written, count-below as counts-below}
 
 pub round_trips-one_moment : (s t : ℤ) → IsMoment s → IsMoment t → written_moment s ≡ written_moment t → s ≡ t

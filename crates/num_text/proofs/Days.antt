@@ -21,6 +21,16 @@ IsCivilDate-is_day year month day real =
     let day_high : day ≤ days_in_month (pos year) month = grind (arith, nat_tests) in
     ((omega (arith, ints), omega (arith, ints)), (month_low, month_high), (day_low, day_high))
 
+-- and a day of the calendar from the year 1 on passes the test
+pub is_day-IsCivilDate : (year month day : ℕ) → 1 ≤ year → IsCivilDate (pos year) month day → is_day year month day ≡ true
+is_day-IsCivilDate year month day first civil =
+    let last : year ≤ 9999 = omega (arith, ints, civil.0.1) in
+    let month_low : 1 ≤ month = civil.1.0 in
+    let month_high : month ≤ 12 = civil.1.1 in
+    let day_low : 1 ≤ day = civil.2.0 in
+    let day_high : day ≤ days_in_month (pos year) month = civil.2.1 in
+    grind (arith, nat_tests)
+
 -- the first day of the year 1
 pub day_count-first : day_count (pos 1) 1 1 ≡ 3_652_791
 day_count-first = day_count-early (pos 1) 10000 1 1 refl (omega arith) (omega arith) (omega arith)

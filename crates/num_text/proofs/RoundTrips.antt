@@ -8,7 +8,8 @@ use Rattle.jiff_core.specs.Calendar.{days_from_civil}
 use Rattle.jiff_core.proofs.CalendarLemmas.{days_in_month_bounds}
 use Rattle.num_text.specs.Dates.{is_day, year_month_day}
 use Rattle.num_text.specs.Clocks.{seconds_part, clock, moment_of, seconds_at}
-use Rattle.num_text.specs.Written.{places, year_at, month_at, day_at, written_moment, seconds_after_first}
+use Rattle.num_text.specs.CivilDays.{year_at, month_at, day_at}
+use Rattle.num_text.specs.Written.{places, written_moment, seconds_after_first}
 use Rattle.num_text.proofs.Cuts.{is_apart, field-places, field_below-places}
 use Rattle.num_text.proofs.Years.{IsDateOf, date_at}
 

@@ -5,15 +5,15 @@ use Rattle.std.proofs.lemmas.Bool.Decides.{nat_tests}
 use Rattle.std.proofs.lemmas.Bool.{cases_lt}
 use Rattle.std.proofs.lemmas.Int.{ints}
 use Rattle.exact_fraction.specs.Moments.{days_through}
-use Rattle.jiff_core.specs.Calendar.{days_of_months, days_in_month, day_count, days_from_civil, IsCivilDate}
+use Rattle.jiff_core.specs.Calendar.{days_of_months, days_in_month, day_count, day_of_year, days_from_civil, IsCivilDate}
 use Rattle.jiff_core.specs.declared.civil.date.Date.{Date}
 use Rattle.jiff_core.proofs.DateLemmas.{civil}
-use Rattle.num_text.proofs.Days.{IsCivilDate-is_day}
+use Rattle.num_text.proofs.Days.{IsCivilDate-is_day, is_day-IsCivilDate, day_range}
 use Rattle.jiff_core.proofs.SignedLemmas.{signed_arith}
 use Rattle.jiff_core.proofs.MarchLemmas.{march_days-suc, days_in_year-leap_day, day_count-early}
 use Rattle.jiff_core.proofs.CalendarLemmas.{days_of_months_mono, days_of_months-zero, days_of_months_more, days_of_months_all, days_from_civil-day_count, day_count-day_of_year, day_of_year_bound, day_count-year_is, day_count-lt_month, day_count-day}
 use Rattle.num_text.specs.Dates.{is_day}
-use Rattle.num_text.specs.Written.{year_at, place_at, months_before, month_at, day_at}
+use Rattle.num_text.specs.CivilDays.{days_after_first, year_at, place_at, months_before, month_at, day_at, IsCivilDay}
 
 -- the days before the year of average length, and those through the year after it
 near_low : (days : ℕ) → days_through (400 * days / 146_097) ≤ days
@@ -185,3 +185,40 @@ pub year_most : (days : ℕ) → days < days_through 9_999 → year_at days ≤ 
 year_most days early =
     let known = (date_at days early).real in
     grind (arith, nat_tests)
+
+-- ---- the days of the calendar's dates
+-- how many days after 0001-01-01 a date comes
+record IsCounted (day : ℤ) (days : ℕ) : Type 0 where
+  early : days < days_through 9_999
+  number : day ≡ pos days -ℤ pos 719_162
+
+counted : (y m d : ℕ) → 1 ≤ y → IsCivilDate (pos y) m d → IsCounted (days_from_civil (pos y) m d) (days_after_first (days_from_civil (pos y) m d))
+counted y m d some known =
+    let range = day_range y m d (is_day-IsCivilDate y m d some known) in
+    record { early = omega (arith, ints, range.low, range.high); number = omega (arith, ints, range.low) }
+
+pub date_number : (y m d : ℕ) → 1 ≤ y → IsCivilDate (pos y) m d → days_from_civil (pos y) m d ≡ pos (days_after_first (days_from_civil (pos y) m d)) -ℤ pos 719_162
+date_number y m d some known = (counted y m d some known).number
+
+place_in_year : (n m d days : ℕ) → IsCivilDate (pos (suc n)) m d → days_from_civil (pos (suc n)) m d ≡ pos days -ℤ pos 719_162 → days - days_through n + 1 ≡ day_of_year (pos (suc n)) m d
+place_in_year n m d days known e =
+    let first = first_day n in
+    let some : 1 ≤ d = known.2.0 in
+    let place = day_count-day_of_year (pos (suc n)) m d some in
+    let number = days_from_civil-day_count (pos (suc n)) m d in
+    omega (arith, signed_arith)
+
+day_of_date : (n m d days : ℕ) → IsCivilDate (pos (suc n)) m d → IsCounted (days_from_civil (pos (suc n)) m d) days → IsCivilDay days (suc n) m d (day_of_year (pos (suc n)) m d)
+unfolding place_at
+day_of_date n m d days known count =
+    let told = date_at days count.early in
+    let written = IsCivilDate-is_day (year_at days) (month_at days) (day_at days) told.real in
+    let same = same_date (pos (suc n)) (pos (year_at days)) m d (month_at days) (day_at days) known written (count.number ∙ sym told.number) in
+    let year : year_at days ≡ suc n = omega (arith, ints, same.year) in
+    let before : suc n - 1 ≡ n = omega arith in
+    record { year = year; month = sym same.month; day = sym same.day; place = rw (year, before) (place_in_year n m d days known count.number) }
+
+-- the date of a day is the one that the calendar counts by it
+pub date_told : (y m d : ℕ) → 1 ≤ y → IsCivilDate (pos y) m d → IsCivilDay (days_after_first (days_from_civil (pos y) m d)) y m d (day_of_year (pos y) m d)
+date_told zero m d some known = absurd (omega arith)
+date_told (suc n) m d some known = day_of_date n m d (days_after_first (days_from_civil (pos (suc n)) m d)) known (counted (suc n) m d some known)

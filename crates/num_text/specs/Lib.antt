@@ -2,6 +2,7 @@ pub mod Fields
 pub mod Dates
 pub mod Clocks
 pub mod Views
+pub mod CivilDays
 pub mod Written
 pub mod Pointed
 pub mod Times

@@ -1,12 +1,14 @@
 //! Laws of the readings and writings. Each function here does nothing: its contract states laws for the proofs of the crates
 //! above.
-ghost use Rattle.std.specs.Prelude.{◌≡◌, ℕ, ◌<◌, ◌≤◌, ◌*◌, ◌%◌, ◌⊎◌, ◌^◌, Bool, List, codes, ℤ, pos, negsuc, Some, None, Ok, Err, length, decimal, IsTrue};
+ghost use Rattle.std.specs.Prelude.{◌≡◌, ℕ, ◌<◌, ◌≤◌, ◌*◌, ◌%◌, ◌⊎◌, ◌^◌, Bool, List, codes, ℤ, pos, negsuc, ◌-ℤ◌, Some, None, Ok, Err, length, decimal, IsTrue};
 ghost use Rattle.std.specs.List.{list_all};
 ghost use Rattle.std.specs.Char.{is_ascii_digit};
 ghost use Rattle.std.specs.Str.Parse.{digits_value};
 ghost use Rattle.exact_fraction.specs.Moments.{IsMoment, first_second, last_second};
 ghost use Rattle.exact_fraction.specs.Number.{Rational, whole, zero, IsNumber};
+ghost use Rattle.jiff_core.specs.Calendar.{IsCivilDate, days_from_civil, day_of_year};
 ghost use Rattle.num_text.specs.declared.error.NumberFault.TheVariants.{BadNumber, TooLarge};
+ghost use Rattle.num_text.specs.CivilDays.{days_after_first, IsCivilDay};
 ghost use Rattle.num_text.specs.Clocks.{clock, clock_below, moment_of};
 ghost use Rattle.num_text.specs.Counts.{count_of};
 ghost use Rattle.num_text.specs.Dates.{date_of, day_of_year_of};
@@ -22,6 +24,15 @@ pub fn round_trips()
     ensures value { (q : Rational) → IsNumber q → spelled_value (written_value q) ≡ Some q }
     ensures one_moment { (s t : ℤ) → IsMoment s → IsMoment t → written_moment s ≡ written_moment t → s ≡ t }
     ensures one_value { (p q : Rational) → IsNumber p → IsNumber q → written_value p ≡ written_value q → p ≡ q }
+{}
+
+/// The year, the month, the day of the month and the place in the year of a day that is so many days after 0001-01-01 are those
+/// of the calendar: of each civil date from the year 1 on, by its day number. None of these dates comes before 0001-01-01 (own).
+pub fn calendar()
+    ensures date { (y m d : ℕ) → 1 ≤ y → IsCivilDate (pos y) m d
+        → IsCivilDay (days_after_first (days_from_civil (pos y) m d)) y m d (day_of_year (pos y) m d) }
+    ensures number { (y m d : ℕ) → 1 ≤ y → IsCivilDate (pos y) m d
+        → days_from_civil (pos y) m d ≡ pos (days_after_first (days_from_civil (pos y) m d)) -ℤ pos 719_162 }
 {}
 
 /// The significand of digits is 0 or not divisible by 10, and with the zeros at their end it is the number that they write (own).

@@ -1,6 +1,7 @@
 //! Moments.
 ghost use Rattle.std.specs.Prelude.{◌≡◌, ◌+◌, ◌*◌, ◌<◌, ◌≤◌, ◌++◌, ◌≤ℤ◌, length, pos, neg_ℤ, IfSome, Some};
-ghost use Rattle.num_text.specs.Written.{year_at, month_at, day_at, seconds_after_first, written_day, written_time, written_moment};
+ghost use Rattle.num_text.specs.CivilDays.{year_at, month_at, day_at};
+ghost use Rattle.num_text.specs.Written.{seconds_after_first, written_day, written_time, written_moment};
 ghost use Rattle.std.specs.Option.{option_map};
 ghost use Rattle.num_text.specs.Clocks.{moment_day, past_gap, seconds_at, moment_of};
 ghost use Rattle.num_text.specs.Views.{dated_now};

@@ -3,7 +3,8 @@ use Rattle.jiff_core.specs.Calendar.{days_of_months}
 use Rattle.num_text.specs.Fields.{leading_digits, past_digits, field, field_below}
 use Rattle.num_text.specs.Dates.{month_day_year, year_month_day}
 use Rattle.num_text.specs.Clocks.{seconds_part, clock, moment_of}
-use Rattle.num_text.specs.Written.{places, written_moment, year_at, place_at, months_before, month_at, day_at}
+use Rattle.num_text.specs.CivilDays.{year_at, place_at, months_before, month_at, day_at}
+use Rattle.num_text.specs.Written.{places, written_moment}
 use Rattle.num_text.proofs.June.{days_from_civil-june}
 use Rattle.num_text.proofs.laws.day_examples.Goals as goal
 

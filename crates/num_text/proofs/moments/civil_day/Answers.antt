@@ -1,7 +1,7 @@
 use Rattle.std.proofs.Common.{◌≡◌, ◌≤◌, ℕ, arith, ap, ◌∙◌, w16, to_z, of_z, ℤ, pos}
 use Rattle.std.specs.Prelude.{unsigned_abs, FitsSigned}
 use Rattle.std.proofs.lemmas.Int.{ints, to_z-of_z}
-use Rattle.num_text.specs.Written.{year_at}
+use Rattle.num_text.specs.CivilDays.{year_at}
 use Rattle.num_text.proofs.Years.{date_is, year_most}
 use Rattle.num_text.proofs.moments.civil_day.Goals as goal
 
