@@ -168,3 +168,21 @@ usage_says fw fn failed ecw ecn was now line result is (inr t) =
     let P : Status → Type 0 = λ s. Says fw fn failed (Rose ecw ecn) was now s in
     let Q : List ℕ → Type 0 = λ bytes. AppendsPrefix was now bytes in
     subst P (sym t.0) (inr (inr (t.2, (Usage, subst Q is t.1))))
+
+-- Usage is the end of no complaint that a replay answers
+usage_of : (files_was files_now : ℕ → ℕ) (count_was count_now : ℕ) (c : Complaint) → CountsOf files_was files_now count_was count_now (Err c)
+    → status_of c ≢ status.Usage
+usage_of fw fn cw cn (Refused refusal) k is = let e : status.Refused ≡ status.Usage = is in cc
+usage_of fw fn cw cn (TooLong r) k is = let e : status.Refused ≡ status.Usage = is in cc
+usage_of fw fn cw cn (Trace line cause) k is = let e : status.Refused ≡ status.Usage = is in cc
+usage_of fw fn cw cn (ReadFailed r) k is = let e : status.Device ≡ status.Usage = is in cc
+usage_of fw fn cw cn WriteFailed k is = let e : status.Device ≡ status.Usage = is in cc
+usage_of fw fn cw cn OutOfMemory k is = let e : status.NoMemory ≡ status.Usage = is in cc
+usage_of fw fn cw cn Usage k is = k
+
+pub complained_other : (files_was files_now : ℕ → ℕ) (count_was count_now err_count_was err_count_now : ℕ) (was now : Option (List ℕ)) (c : Complaint) (result : Status)
+    → CountsOf files_was files_now count_was count_now (Err c) → Complains c was now err_count_was err_count_now result → result ≢ status.Usage
+complained_other fw fn cw cn ecw ecn was now c result k (inl (inl t)) is = usage_of fw fn cw cn c k (sym t.0 ∙ is)
+complained_other fw fn cw cn ecw ecn was now c result k (inl (inr t)) is = let e : status.Device ≡ status.Usage = sym t.0 ∙ is in cc
+complained_other fw fn cw cn ecw ecn was now c result k (inr (m, inl t)) is = let e : status.NoMemory ≡ status.Usage = sym t.0 ∙ is in cc
+complained_other fw fn cw cn ecw ecn was now c result k (inr (m, inr t)) is = let e : status.Device ≡ status.Usage = sym t.0 ∙ is in cc

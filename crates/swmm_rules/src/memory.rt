@@ -24,7 +24,11 @@ pub struct Written {
 /// How many bytes a read gives and a write takes at most, and the room for `err`.
 const CUT: usize = 8_192;
 
-/// Runs `replay` over these two files, with room for `room` bytes of output. Where the room is not enough, the status is Device.
+/// Runs `replay` over these two files, into an output with room for `room` bytes.
+///
+/// With Done and Refused the whole text stands on the output, and its line on `err`; with NoMemory and Device a front of the text.
+/// A room that is too small ends the run with Device, as the tests show; no clause says so. `Err` comes where memory for the
+/// words, the files, the two outputs or the answer is refused.
 pub fn replay_bytes(
     alloc: Global,
     input: Vec<u8>,

@@ -27,8 +27,9 @@ pub fn run<F: Files, O: Sink, E: Sink>(
     out: &mut O,
     err: &mut E,
 ) -> Status
-    // Usage comes where the words are no command, and nowhere else.
+    // Usage comes where the words are no command, unless `err` fails, and nowhere else.
     ensures usage { IsNone (command_of (map string_bytes words.now)) → (result ≡ Status.Usage) ⊎ (result ≡ Status.Device) }
+    ensures command { result ≡ Status.Usage → IsNone (command_of (map string_bytes words.now)) }
     ensures no_command { IsNone (command_of (map string_bytes words.now)) → Appends (O.written out.old) (O.written out.new) [] }
 
     // A replay is that of the bytes held under the two names. The trace is opened only where the input file is accepted.

@@ -78,6 +78,27 @@ fn refuses_at_the_line(rt: HostRuntime) -> Result<(), Fail> {
     Ok(())
 }
 
+/// Room for the header, the first row and eleven bytes more.
+const LITTLE_ROOM: usize = 50;
+
+#[test]
+fn ends_where_the_room_does(rt: HostRuntime) -> Result<(), Fail> {
+    let alloc = rt.alloc();
+    let written = replay_bytes(
+        alloc,
+        input(alloc, EIGHTH)?,
+        Vec::from_slice(alloc, TRACE)?,
+        LITTLE_ROOM,
+    )?;
+    assert!(rt; written.status == Status::Device);
+    assert!(rt;
+        written.output.as_slice()
+            == b"moment,N1A,N1B\n2001-06-15T00:00:00,1,0\n2001-06-15T".as_slice()
+    );
+    assert!(rt; written.error.as_slice() == b"error: write failed\n".as_slice());
+    Ok(())
+}
+
 /// Two files, with reads of at most 100 bytes.
 fn files(alloc: Global, failing: u64) -> Result<MemoryFiles, NoMemory> {
     let mut held = Vec::new(alloc);

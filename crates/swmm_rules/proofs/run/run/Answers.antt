@@ -1,4 +1,4 @@
-use Rattle.swmm_rules.proofs.Complained.{complained_replays, complained_says, usage_says}
+use Rattle.swmm_rules.proofs.Complained.{complained_replays, complained_says, complained_other, usage_says}
 use Rattle.swmm_rules.proofs.run.run.Goals as goal
 
 pub returns-in-None-clause-says : goal.returns-in-None-clause-says
@@ -23,3 +23,9 @@ returns-in-Err-clause-says g c =
     complained_says (g.F.Files.faults c.args.files.now) (g.F.Files.faults c.replay.new.files)
     (g.O.Sink.faults c.args.out.now) (g.O.Sink.faults c.replay.new.out) (g.E.Sink.faults c.args.err.now) (g.E.Sink.faults c.complain.new.err)
     (g.E.Sink.written c.args.err.now) (g.E.Sink.written c.complain.new.err) c.in-Err.complaint c.complain.result c.in-Err.ensures.counts c.complain.ensures.complains
+
+pub returns-in-Err-clause-command : goal.returns-in-Err-clause-command
+returns-in-Err-clause-command g c = λ usage.
+    absurd (complained_other (g.F.Files.faults c.args.files.now) (g.F.Files.faults c.replay.new.files)
+    (g.O.Sink.faults c.args.out.now) (g.O.Sink.faults c.replay.new.out) (g.E.Sink.faults c.args.err.now) (g.E.Sink.faults c.complain.new.err)
+    (g.E.Sink.written c.args.err.now) (g.E.Sink.written c.complain.new.err) c.in-Err.complaint c.complain.result c.in-Err.ensures.counts c.complain.ensures.complains usage)
