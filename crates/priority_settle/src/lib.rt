@@ -1,0 +1,9 @@
+//! Which of the listed pairs of rules and actions are settled: for each link the one whose rule has the highest priority.
+#![tactic(auto)]
+
+mod pairs;
+mod table;
+#[cfg(test)]
+mod tests;
+
+pub use table::settle;
