@@ -3,12 +3,12 @@ use Rattle.std.proofs.Common.{◌≡◌, ℕ, suc, zero, ◌-◌, ◌≤◌, Lis
 use Rattle.std.proofs.lemmas.List.{take-append-drop, length-take-le}
 use Rattle.std.specs.Io.KnownBytes.{Consumes, Keeps, prepend_known}
 use Rattle.std.proofs.KnownBytes.{Consumes-trans}
-use Rattle.byte_edge.specs.Lines.{newlines}
-use Rattle.byte_edge.specs.Part.{Kept, IsTaken, IsWholeLine}
+use Rattle.byte_edge.specs.Lines.{newlines, IsWholeLine}
+use Rattle.byte_edge.specs.internal.LineParts.{LinePrefix, IsTaken}
 use Rattle.byte_edge.proofs.Lines.{newlines-append}
 
 -- the bytes taken so far have no LF
-pub record IsBegun (line : Kept) (old_room new_room : ℕ) (before after : Option (List ℕ)) : Type 0 where
+pub record IsBegun (line : LinePrefix) (old_room new_room : ℕ) (before after : Option (List ℕ)) : Type 0 where
   pub raw : List ℕ
   pub none : newlines raw ≡ 0
   pub taken : IsTaken raw line old_room new_room before after
@@ -46,7 +46,7 @@ Consumes-unread (Some xs) rest held (Some ys) (Some zs) raw empty none consumed 
     consumed ∙ ap (λ l. raw ++ (l ++ ys)) (empty ∙ sym none) ∙ ap (λ l. raw ++ (held ++ l)) (sym kept)
 
 -- one more part was taken and paid for
-pub IsTaken-part : (line new : Kept) (old_room room : ℕ) (before : Option (List ℕ)) (held rest : List ℕ) (n : ℕ) (left : Option (List ℕ)) (raw : List ℕ)
+pub IsTaken-part : (line new : LinePrefix) (old_room room : ℕ) (before : Option (List ℕ)) (held rest : List ℕ) (n : ℕ) (left : Option (List ℕ)) (raw : List ℕ)
     → n ≤ length held → n ≤ room → rest ≡ drop n held
     → new.bytes ≡ take line.most (line.bytes ++ take n held) → new.most ≡ line.most
     → IsTaken raw line old_room room before (prepend_known held left)

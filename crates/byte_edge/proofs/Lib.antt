@@ -3,6 +3,8 @@ pub mod Writes
 pub mod Lists
 pub mod Lines
 pub mod Gathering
-pub mod Telling
+pub mod Reports
 pub mod Chain
 pub mod AllLines
+pub mod SlotCalls
+pub mod PublicLaws

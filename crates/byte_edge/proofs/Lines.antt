@@ -1,10 +1,10 @@
--- The lines of bytes: where the first ends, and what a reader tells of it.
-use Rattle.std.proofs.Common.{◌≡◌, ℕ, suc, ◌+◌, ◌<◌, ◌≤◌, ◌==◌, Bool, true, false, not, cond, List, [], ◌∷◌, ◌++◌, length, take, Some, None, refl, sym, ◌∙◌, ap, subst, arith, ltb}
+-- The lines of bytes: where the first ends, and what a search for its end finds.
+use Rattle.std.proofs.Common.{◌≡◌, ℕ, suc, ◌+◌, ◌<◌, ◌≤◌, ◌==◌, ◌||◌, Bool, true, false, not, cond, List, [], ◌∷◌, ◌++◌, length, take, Some, None, refl, sym, ◌∙◌, ap, subst, arith, ltb}
 use Rattle.std.specs.List.{position, position_or_len}
 use Rattle.std.proofs.lemmas.Bool.{eqb-true, ltb-true, ltb-false}
 use Rattle.std.proofs.lemmas.List.{take_all}
-use Rattle.byte_edge.specs.Lines.{raw_lines, onto_first, newlines}
-use Rattle.byte_edge.specs.Part.{IsNextPart}
+use Rattle.byte_edge.specs.Lines.{raw_lines, onto_first, newlines, has_line_feed}
+use Rattle.byte_edge.specs.internal.LineParts.{IsNextPart}
 
 -- bytes without an LF: neither the first nor one of the rest is one
 pub newlines-none : (x : ℕ) (xs : List ℕ) → newlines (x ∷ xs) ≡ 0 → ((x == 10) ≡ false) × (newlines xs ≡ 0)
@@ -17,6 +17,13 @@ newlines-none x xs none = at (x == 10) none
 pub newlines-append : (xs ys : List ℕ) → newlines (xs ++ ys) ≡ newlines xs + newlines ys
 newlines-append [] ys = omega arith
 newlines-append (x ∷ xs) ys = omega (arith, newlines-append xs ys)
+
+-- bytes of which none is an LF
+pub none_is_feed : (xs : List ℕ) → newlines xs ≡ 0 → has_line_feed xs ≡ false
+none_is_feed [] none = refl
+none_is_feed (x ∷ xs) none =
+    let no = newlines-none x xs none in
+    ap (λ b. b || has_line_feed xs) no.0 ∙ none_is_feed xs no.1
 
 -- the first line, where its LF is there
 pub raw_lines-whole : (text rest : List ℕ) → newlines text ≡ 0 → raw_lines (text ++ 10 ∷ rest) ≡ (text ++ 10 ∷ []) ∷ raw_lines rest
@@ -99,7 +106,7 @@ found_by xs at true in_range found =
     })
 found_by xs at false in_range found = cc
 
--- what the search for an LF tells of the next part of a line
+-- what the search for an LF says of the next part of a line
 pub newline-found : (xs : List ℕ) (at : ℕ) → Some at ≡ position (λ byte. byte == 10) xs → IsNextPart (at + 1) true xs
 newline-found xs at found = found_by xs at (ltb (first_newline xs) (length xs)) refl found
 

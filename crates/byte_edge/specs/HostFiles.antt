@@ -1,7 +1,7 @@
 -- Which slots of the host's files are open.
 use Rattle.std.specs.Prelude.{ℕ, zero, suc, IsSome, Option}
 
--- the slot was opened (own)
+-- the slot was opened
 abbrev pub is_open_in : {T : Type 0} → Option T → Option T → Option T → ℕ → Type 0
 is_open_in first second third zero = IsSome first
 is_open_in first second third (suc zero) = IsSome second

@@ -1,6 +1,6 @@
 -- What files in memory hold and give.
-use Rattle.std.specs.Prelude.{◌≡◌, ℕ, ◌+◌, ◌-◌, ◌^◌, min, List, drop, None, Option, option_map, slice_index, slice_index_or, Contains}
-use Rattle.byte_edge.specs.Entries.{Entry, bytes_at}
+use Rattle.std.specs.Prelude.{◌≡◌, ℕ, ◌+◌, ◌-◌, ◌^◌, min, List, drop, None, Option, IsSome, option_map, slice_index, slice_index_or, Contains}
+use Rattle.byte_edge.specs.Entries.{Entry, bytes_at, held_under}
 use Rattle.byte_edge.specs.declared.memory_files.MemoryFiles.{MemoryFiles}
 use Rattle.byte_edge.specs.declared.memory_files.Place.{Place}
 
@@ -28,19 +28,29 @@ faults_in files slot = slice_index files.faults slot
 abbrev pub place_in : MemoryFiles → ℕ → Option Place
 place_in files slot = slice_index_or files.places slot None
 
--- the bytes of the slot's entry from its place on (own)
-abbrev pub left_in : MemoryFiles → ℕ → Option (List ℕ)
-left_in files slot = option_map (λ place. drop place.at (bytes_at files.held.items place.entry)) (place_in files slot)
+-- the slot is being read
+abbrev pub IsOpenIn : MemoryFiles → ℕ → Type 0
+IsOpenIn files slot = IsSome (place_in files slot)
 
--- the number of the next call, which stays at its type's end (own)
+-- the bytes held under a name
+abbrev pub held_in : MemoryFiles → List ℕ → Option (List ℕ)
+held_in files name = held_under (entries_of files) name
+
+-- the bytes of the slot's entry from its place on
+abbrev pub left_in : MemoryFiles → ℕ → Option (List ℕ)
+left_in files slot =
+    option_map (λ place. drop place.at (bytes_at (entries_of files) place.entry))
+    (place_in files slot)
+
+-- the number of the next call, which stays at its type's end
 abbrev pub next_call : MemoryFiles → ℕ
 next_call files = min (calls_of files + 1) (2 ^ 64 - 1)
 
--- the next call is one of those that fail (own)
+-- the next call is one of those that fail
 abbrev pub FailsNext : MemoryFiles → Type 0
 FailsNext files = Contains (failing_of files) (next_call files)
 
--- what never changes: the bytes held, the cut and the calls that fail; the number of calls goes on (own)
+-- what never changes: the bytes held, the cut and the calls that fail; the number of calls goes on
 pub record IsCalled (old new : MemoryFiles) : Type 0 where
   pub held : entries_of new ≡ entries_of old
   pub cut : cut_of new ≡ cut_of old

@@ -26,15 +26,15 @@ calls_of sink = sink.calls
 abbrev pub faults_of : MemorySink → ℕ
 faults_of sink = sink.faults
 
--- the number of the next call, which stays at its type's end (own)
+-- the number of the next call, which stays at its type's end
 abbrev pub next_call : MemorySink → ℕ
 next_call sink = min (calls_of sink + 1) (2 ^ 64 - 1)
 
--- the next call is one of those that fail (own)
+-- the next call is one of those that fail
 abbrev pub FailsNext : MemorySink → Type 0
 FailsNext sink = Contains (failing_of sink) (next_call sink)
 
--- what never changes: the cut and the calls that fail; the number of calls goes on (own)
+-- what never changes: the cut and the calls that fail; the number of calls goes on
 pub record IsCalled (old new : MemorySink) : Type 0 where
   pub cut : cut_of new ≡ cut_of old
   pub failing : failing_of new ≡ failing_of old

@@ -1,15 +1,16 @@
 //! All lines of a slot at once.
-ghost use Rattle.std.specs.Prelude.{◌≡◌, ◌<◌, ◌≤◌, ℕ, List, [], ◌∷◌, ◌++◌, Some, None, length, map, IfOk, IfSome, OnOk, IsErrOf, Option};
+ghost use Rattle.std.specs.Prelude.{◌≡◌, ◌<◌, ◌≤◌, [], ◌∷◌, ◌++◌, Some, None, length, map, IfOk, IfSome, OnOk, IsErrOf};
 ghost use Rattle.std.specs.Io.KnownBytes.{IsAtEnd};
-ghost use Rattle.byte_edge.specs.Devices.{SameElsewhere, CountsFollow};
+ghost use Rattle.byte_edge.specs.Devices.{IsCallOn};
 ghost use Rattle.byte_edge.specs.Lines.{lines, capped};
 ghost use Rattle.byte_edge.specs.AllLines.{texts_of, is_failed};
 
 use super::{Files, LineReader, LinesEnd, NoMemory, ReadEnd};
 use std::alloc::Global;
 
-/// Reads the slot to its end, and gives its lines without their ends, and None for each that has over
-/// `limit` bytes. It takes memory for each line that it gives.
+/// Reads the slot to its end, and gives its lines without their ends, and None for each that has
+/// over `limit` bytes. It takes memory for a copy of each line that it gives, and a block of 8,192
+/// bytes and a line of `limit` bytes while it reads.
 pub fn read_lines<F: Files>(
     alloc: Global,
     slot: usize,
@@ -22,18 +23,15 @@ pub fn read_lines<F: Files>(
     requires opened { F.is_open files.old slot }
 
     ensures lines { IfOk result (λ all. IfSome (F.left files.old slot)
-        (λ bytes. (length bytes ≤ budget) × (texts_of all.items ≡ map (capped limit) (lines bytes)))) }
+        (λ bytes. (length bytes ≤ budget)
+        × (texts_of all.items ≡ map (capped limit) (lines bytes)))) }
     ensures at_end { OnOk result (IsAtEnd (F.left files.new slot)) }
     ensures too_long { IsErrOf result LinesEnd.TooLong
         → IfSome (F.left files.old slot) (λ bytes. budget < length bytes) }
 
-    ensures stays_open { (k : ℕ) → F.is_open files.old k → F.is_open files.new k }
-    ensures names { (name : List ℕ) → F.held files.new name ≡ F.held files.old name }
-    ensures other_slots { SameElsewhere slot (F.left files.old) (F.left files.new) }
-
-    ensures counts { CountsFollow (is_failed result) slot (F.faults files.old) (F.faults files.new) }
-    ensures other_counts { SameElsewhere slot (F.faults files.old) (F.faults files.new) }
-    ensures later { (k : ℕ) → F.faults files.old k ≤ F.faults files.new k }
+    ensures call { IsCallOn slot (is_failed result)
+        (F.is_open files.old) (F.is_open files.new) (F.held files.old) (F.held files.new)
+        (F.left files.old) (F.left files.new) (F.faults files.old) (F.faults files.new) }
 {
     let mut reader = LineReader::new(alloc, slot, limit, budget)?;
     let mut all = Vec::new(alloc);

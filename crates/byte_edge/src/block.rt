@@ -1,13 +1,13 @@
 //! The bytes that were read from a slot and not yet given.
-ghost use Rattle.std.specs.Prelude.{◌≡◌, ◌<◌, ◌≤◌, ℕ, List, [], length, drop, false, IsTrue, IfOk, OnOk, OnErr, slice_range, vec_len};
+ghost use Rattle.std.specs.Prelude.{◌≡◌, ◌<◌, ◌≤◌, [], length, drop, false, IsTrue, IfOk, OnOk, OnErr, is_err};
 ghost use Rattle.std.specs.Io.KnownBytes.{Consumes, Keeps, IsAtEnd};
-ghost use Rattle.byte_edge.specs.Devices.{Rose, SameElsewhere};
+ghost use Rattle.byte_edge.specs.Devices.{IsCallOn};
 
 use super::{Failed, Files, NoMemory};
 use std::alloc::Global;
 use std::marker::Model;
 
-/// How many bytes a read asks for (own).
+/// How many bytes a read asks for.
 const BLOCK: usize = 8192;
 
 /// Bytes of a slot, taken by reads of up to 8,192 bytes. Contracts see the bytes that it holds.
@@ -51,7 +51,7 @@ impl Block {
         &all[start..end]
     }
 
-    /// Lets the first `count` bytes go.
+    /// Discards the first `count` bytes.
     pub(crate) fn consume(&mut self, count: usize)
         requires { count ≤ length self.old }
         ensures { self.new ≡ drop count self.old }
@@ -64,20 +64,17 @@ impl Block {
         requires slot { slot < 3 }
         requires opened { F.is_open files.old slot }
 
-        ensures bytes { OnOk result (Consumes (F.left files.old slot) (F.left files.new slot) self.new) }
+        ensures bytes { OnOk result
+            (Consumes (F.left files.old slot) (F.left files.new slot) self.new) }
         ensures more { IfOk result (λ more. IsTrue more → 0 < length self.new) }
-        ensures end { IfOk result (λ more. more ≡ false → (self.new ≡ []) × IsAtEnd (F.left files.new slot)) }
+        ensures end { IfOk result
+            (λ more. more ≡ false → (self.new ≡ []) × IsAtEnd (F.left files.new slot)) }
         ensures nothing { OnErr result (self.new ≡ []) }
         ensures unread { OnErr result (Keeps (F.left files.old slot) (F.left files.new slot)) }
 
-        ensures stays_open { (k : ℕ) → F.is_open files.old k → F.is_open files.new k }
-        ensures names { (name : List ℕ) → F.held files.new name ≡ F.held files.old name }
-        ensures other_slots { SameElsewhere slot (F.left files.old) (F.left files.new) }
-
-        ensures failed { OnErr result (Rose (F.faults files.old slot) (F.faults files.new slot)) }
-        ensures counts { OnOk result ((k : ℕ) → F.faults files.new k ≡ F.faults files.old k) }
-        ensures other_counts { SameElsewhere slot (F.faults files.old) (F.faults files.new) }
-        ensures later { (k : ℕ) → F.faults files.old k ≤ F.faults files.new k }
+        ensures call { IsCallOn slot (is_err result)
+            (F.is_open files.old) (F.is_open files.new) (F.held files.old) (F.held files.new)
+            (F.left files.old) (F.left files.new) (F.faults files.old) (F.faults files.new) }
     {
         self.start = 0;
         self.end = 0;

@@ -1,13 +1,13 @@
-//! The two ways in which a call of this crate can fail without telling more.
+//! The two ways in which a call of this crate can fail with no further cause.
 use std::alloc::{AllocError, AllocFailed};
 use thiserror::Error;
 
-/// A device failed. The count of faults of the slot or the sink rose.
+/// A device failed. The count of faults of the slot or the sink increased.
 #[derive(Clone, Copy, Debug, PartialEq, Eq, Error)]
 #[error("a device failed")]
 pub struct Failed;
 
-/// There was no memory for what a call makes.
+/// There was not enough memory for what a call makes.
 #[derive(Clone, Copy, Debug, PartialEq, Eq)]
 pub struct NoMemory;
 

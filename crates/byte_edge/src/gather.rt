@@ -1,10 +1,11 @@
 //! One line, taken from the bytes that are held and those that reads give.
-ghost use Rattle.std.specs.Prelude.{◌≡◌, ◌<◌, ◌≤◌, ℕ, List, length, take, ◌==◌, position};
-ghost use Rattle.byte_edge.specs.Lines.{newlines};
+ghost use Rattle.std.specs.Prelude.{◌≡◌, ◌<◌, ◌==◌, IsTrue, position};
 ghost use Rattle.std.specs.Io.KnownBytes.{prepend_known};
-ghost use Rattle.byte_edge.specs.Devices.{SameElsewhere, CountsFollow};
-ghost use Rattle.byte_edge.specs.Part.{IsNextPart, IsWholeLine};
-ghost use Rattle.byte_edge.specs.Gathered.{Gathers, is_fault};
+ghost use Rattle.byte_edge.specs.Devices.{IsCallOn, SlotsUnchanged};
+ghost use Rattle.byte_edge.specs.TextBytes.{line_feed};
+ghost use Rattle.byte_edge.specs.Lines.{has_line_feed};
+ghost use Rattle.byte_edge.specs.internal.LineParts.{IsNextPart};
+ghost use Rattle.byte_edge.specs.internal.Gathered.{Gathers, is_fault};
 
 use super::block::Block;
 use super::partial_line::PartialLine;
@@ -19,9 +20,16 @@ pub(crate) struct Part {
 
 /// Where the first LF is.
 fn newline_at(bytes: &[u8]) -> Option<usize>
-    ensures { result ≡ position (λ byte. byte == 10) bytes.now }
+    ensures { result ≡ position (λ byte. byte == line_feed) bytes.now }
 {
     bytes.iter().position(|byte| *byte == b'\n')
+}
+
+/// Whether there is an LF.
+pub(crate) fn has_newline(bytes: &[u8]) -> bool
+    ensures { result ≡ has_line_feed bytes.now }
+{
+    bytes.iter().any(|byte| *byte == b'\n')
 }
 
 /// How many of these bytes belong to the line that they begin, and whether its LF is among them.
@@ -53,8 +61,8 @@ pub(crate) enum Gathered {
     Fault,
 }
 
-/// Takes the next line into `line`, from the bytes of `block` and as many reads as that needs, and pays
-/// for its bytes from `room`.
+/// Takes the next line into `line`, from the bytes of `block` and as many reads as that needs. Its
+/// bytes are subtracted from `room`.
 pub(crate) fn gather<F: Files>(
     block: &mut Block,
     line: &mut PartialLine,
@@ -68,14 +76,13 @@ pub(crate) fn gather<F: Files>(
     ensures gathered { Gathers result line.new room.old room.new
         (prepend_known block.old (F.left files.old slot)) block.new (F.left files.new slot) }
     ensures most { line.new.most ≡ line.old.most }
+    ensures unread { IsTrue (has_line_feed block.old)
+        → SlotsUnchanged
+        (F.left files.old) (F.left files.new) (F.faults files.old) (F.faults files.new) }
 
-    ensures stays_open { (k : ℕ) → F.is_open files.old k → F.is_open files.new k }
-    ensures names { (name : List ℕ) → F.held files.new name ≡ F.held files.old name }
-    ensures other_slots { SameElsewhere slot (F.left files.old) (F.left files.new) }
-
-    ensures counts { CountsFollow (is_fault result) slot (F.faults files.old) (F.faults files.new) }
-    ensures other_counts { SameElsewhere slot (F.faults files.old) (F.faults files.new) }
-    ensures later { (k : ℕ) → F.faults files.old k ≤ F.faults files.new k }
+    ensures call { IsCallOn slot (is_fault result)
+        (F.is_open files.old) (F.is_open files.new) (F.held files.old) (F.held files.new)
+        (F.left files.old) (F.left files.new) (F.faults files.old) (F.faults files.new) }
 {
     line.clear();
     'parts: loop {

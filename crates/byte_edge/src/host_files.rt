@@ -5,7 +5,7 @@ use super::{Failed, Files};
 use std::io::Read;
 use std::{fs, rt};
 
-/// Files of the host, opened by their paths. It tells nothing of what they hold.
+/// Files of the host, opened by their paths. Contracts learn nothing of what they hold.
 #[derive(Drop)]
 pub struct HostFiles<'a, R: rt::Files> {
     host: &'a R,

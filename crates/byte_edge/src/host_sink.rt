@@ -4,7 +4,7 @@ ghost use Rattle.std.specs.Prelude.{◌≡◌, ◌<◌, ◌≤◌, ℕ, None, le
 use super::{Failed, Sink};
 use std::io::Write;
 
-/// A sink over a writer such as standard output. It tells nothing of the bytes written.
+/// A sink over a writer such as standard output. Contracts learn nothing of the bytes written.
 #[derive(Drop)]
 pub struct HostSink<W: Write + Drop> {
     writer: W,

@@ -1,13 +1,13 @@
 //! The edge of the program: files that are read, sinks that are written, and the lines of a file.
 //!
-//! `Files` and `Sink` say what a device does, whether it is the host's or in memory. `LineReader` and
-//! `write_all` stand on these two alone.
+//! `Files` and `Sink` say what a device does, whether it is the host's or in memory. `LineReader`
+//! and `write_all` stand on these two alone.
 #![tactic(auto)]
 
 mod all_lines;
 mod block;
-mod calls;
 mod failed;
+mod failing_calls;
 mod files;
 mod gather;
 mod host_files;
@@ -26,7 +26,10 @@ pub use failed::{Failed, NoMemory};
 pub use files::Files;
 pub use host_files::HostFiles;
 pub use host_sink::HostSink;
-pub use laws::{lines_join, told_within_budget};
+pub use laws::{
+    calls_on_slot, known_end, line_event_examples, line_events_within_budget, line_examples,
+    lines_join, written_bytes,
+};
 pub use line_reader::LineReader;
 pub use lines_end::LinesEnd;
 pub use memory_files::MemoryFiles;

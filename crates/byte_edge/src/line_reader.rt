@@ -1,13 +1,15 @@
 //! The lines of a slot, one after the other.
-ghost use Rattle.std.specs.Prelude.{◌≡◌, ◌+◌, ◌<◌, ◌≤◌, ℕ, List, [], true, false, IsTrue, IfOk, Option};
+ghost use Rattle.std.specs.Prelude.{◌≡◌, ◌<◌, ◌≤◌, [], false, IsTrue, IfOk};
 ghost use Rattle.std.specs.Borrow.{sem};
 ghost use Rattle.std.specs.Io.BufRead.{Rests};
-ghost use Rattle.byte_edge.specs.Devices.{SameElsewhere, CountsFollow};
-ghost use Rattle.byte_edge.specs.Answers.{Answers, Advances, GivesAtMost, is_fault};
+ghost use Rattle.byte_edge.specs.Devices.{IsCallOn, SlotsUnchanged};
+ghost use Rattle.byte_edge.specs.ReaderState.{has_line};
+ghost use Rattle.byte_edge.specs.Answers.{Answers, GivesAtMost, is_fault};
+ghost use Rattle.byte_edge.specs.internal.Reading.{Advances};
 ghost use Rattle.byte_edge.specs.contracts.line_reader.LineReader.{the_row};
 
 use super::block::Block;
-use super::gather::{Gathered, gather};
+use super::gather::{Gathered, gather, has_newline};
 use super::partial_line::PartialLine;
 use super::{Files, NoMemory, ReadEnd};
 use std::alloc::Global;
@@ -15,9 +17,9 @@ use std::marker::Model;
 
 /// Reads the lines of a slot, within a budget of bytes.
 ///
-/// A line ends at LF or at the end of the slot, and one CR before that end is no part of it. The budget
-/// counts all bytes, ends of lines too (own). A reader keeps the bytes that it has taken and not yet
-/// given, what is left of its budget, whether a read gave 0, and whether it is spent.
+/// A line ends at LF or at the end of the slot, and one CR before that end is no part of it. The
+/// budget counts all bytes, ends of lines too. A reader keeps the bytes that it has taken and not
+/// yet given, what is left of its budget, whether a read gave 0, and whether it is spent.
 #[derive(Drop)]
 pub struct LineReader {
     slot: usize,
@@ -30,18 +32,27 @@ pub struct LineReader {
 }
 
 impl Model for LineReader {
-    ghost use Rattle.byte_edge.specs.ReaderState.{ReaderState, IsSound};
+    ghost use Rattle.byte_edge.specs.ReaderState.{ReaderState};
+    ghost use Rattle.byte_edge.specs.internal.Reading.{IsSound};
 
     ghost Value = { ReaderState };
 
-    ghost view = { λ r. record { slot = r.slot; limit = r.limit; room = r.room; held = r.block; line = r.line.bytes; ended = r.ended; spent = r.spent } };
+    ghost view = { λ r. record {
+      slot = r.slot;
+      limit = r.limit;
+      room = r.room;
+      held = r.block;
+      line = r.line.bytes;
+      ended = r.ended;
+      spent = r.spent;
+    } };
 
     ghost invariant = { λ r. IsSound r.slot r.limit r.line.most r.ended r.block };
 }
 
 impl LineReader {
-    /// A reader of the lines of `slot`, of up to `limit` bytes each, within `budget` bytes. It takes all
-    /// memory that its lines need.
+    /// A reader of the lines of `slot`, of up to `limit` bytes each, within `budget` bytes. It
+    /// takes the memory for a block of 8,192 bytes and one line; later calls take none.
     pub fn new(
         alloc: Global,
         slot: usize,
@@ -78,6 +89,16 @@ impl LineReader {
         self.spent
     }
 
+    /// Whether the next line, or the end, is given without a read: an LF is held, or a read gave 0
+    /// before.
+    ///
+    /// It looks through the bytes held, at most 8,192, up to the first LF.
+    pub fn has_line(&self) -> bool
+        ensures { result ≡ has_line self.now }
+    {
+        self.ended || has_newline(self.block.as_slice())
+    }
+
     /// Takes the next line into the reader. True where there is one.
     fn advance<F: Files>(&mut self, files: &mut F) -> Result<bool, ReadEnd>
         requires slot { self.old.slot < 3 }
@@ -86,14 +107,13 @@ impl LineReader {
 
         ensures answer { Advances self.old self.new
             (F.left files.old self.old.slot) (F.left files.new self.old.slot) result }
+        ensures unread { IsTrue (has_line self.old)
+            → SlotsUnchanged
+            (F.left files.old) (F.left files.new) (F.faults files.old) (F.faults files.new) }
 
-        ensures stays_open { (k : ℕ) → F.is_open files.old k → F.is_open files.new k }
-        ensures names { (name : List ℕ) → F.held files.new name ≡ F.held files.old name }
-        ensures other_slots { SameElsewhere self.old.slot (F.left files.old) (F.left files.new) }
-
-        ensures counts { CountsFollow (is_fault result) self.old.slot (F.faults files.old) (F.faults files.new) }
-        ensures other_counts { SameElsewhere self.old.slot (F.faults files.old) (F.faults files.new) }
-        ensures later { (k : ℕ) → F.faults files.old k ≤ F.faults files.new k }
+        ensures call { IsCallOn self.old.slot (is_fault result)
+            (F.is_open files.old) (F.is_open files.new) (F.held files.old) (F.held files.new)
+            (F.left files.old) (F.left files.new) (F.faults files.old) (F.faults files.new) }
     {
         if self.ended {
             return Ok(false);
@@ -129,7 +149,9 @@ impl LineReader {
         }
     }
 
-    /// Gives the next line without its end, or None at the end of the slot.
+    /// Gives the next line without its end, or None at the end of the slot. It reads as often as
+    /// the line needs, and not at all where `has_line` is true. A line over the limit is taken and
+    /// reported, and reading goes on; after `TooLong` and `Fault` the reader is spent.
     pub fn next_line<F: Files>(&mut self, files: &mut F) -> Result<Option<&[u8]>, ReadEnd>
         requires slot { self.old.slot < 3 }
         requires opened { F.is_open files.old self.old.slot }
@@ -138,14 +160,13 @@ impl LineReader {
         ensures* answer { sem 𝓛 (Rests the_row self.entry (λ new. Answers self.old new
             (F.left files.old self.old.slot) (F.left files.new self.old.slot) result)) }
         ensures short { GivesAtMost self.old.limit result }
+        ensures unread { IsTrue (has_line self.old)
+            → SlotsUnchanged
+            (F.left files.old) (F.left files.new) (F.faults files.old) (F.faults files.new) }
 
-        ensures stays_open { (k : ℕ) → F.is_open files.old k → F.is_open files.new k }
-        ensures names { (name : List ℕ) → F.held files.new name ≡ F.held files.old name }
-        ensures other_slots { SameElsewhere self.old.slot (F.left files.old) (F.left files.new) }
-
-        ensures counts { CountsFollow (is_fault result) self.old.slot (F.faults files.old) (F.faults files.new) }
-        ensures other_counts { SameElsewhere self.old.slot (F.faults files.old) (F.faults files.new) }
-        ensures later { (k : ℕ) → F.faults files.old k ≤ F.faults files.new k }
+        ensures call { IsCallOn self.old.slot (is_fault result)
+            (F.is_open files.old) (F.is_open files.new) (F.held files.old) (F.held files.new)
+            (F.left files.old) (F.left files.new) (F.faults files.old) (F.faults files.new) }
     {
         if self.advance(files)? {
             return Ok(Some(self.line.as_slice()));

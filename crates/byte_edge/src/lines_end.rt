@@ -12,7 +12,7 @@ pub enum LinesEnd {
     Failed,
     /// The slot has more bytes than the budget.
     TooLong,
-    /// There was no memory for a line.
+    /// There was not enough memory for a line.
     NoMemory,
 }
 

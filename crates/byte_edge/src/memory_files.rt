@@ -1,11 +1,11 @@
 //! Files in memory.
-ghost use Rattle.std.specs.Prelude.{◌≡◌, ◌+◌, ◌<◌, ◌≤◌, ◌↔◌, ◌⊎◌, ℕ, List, None, min, length, take, drop, IfOk, IfSome, OnOk, OnErr, IsErr, IsSome, IsTrue, Option, position, slice_index, slice_index_or};
+ghost use Rattle.std.specs.Prelude.{◌≡◌, ◌+◌, ◌<◌, ◌≤◌, ◌↔◌, ◌⊎◌, ℕ, None, min, length, take, drop, IfOk, IfSome, OnOk, OnErr, IsErr, IsTrue, is_err, position, slice_index};
 ghost use Rattle.std.specs.Io.{ReadsAtMost};
 ghost use Rattle.std.specs.Io.KnownBytes.{ReadConsumes};
-ghost use Rattle.byte_edge.specs.Devices.{Rose, SameElsewhere};
-ghost use Rattle.byte_edge.specs.Entries.{bytes_at, has_name, held_under};
+ghost use Rattle.byte_edge.specs.Devices.{CountIncreased, UnchangedExcept, IsCallOn};
+ghost use Rattle.byte_edge.specs.Entries.{bytes_at, has_name};
 
-use super::calls::is_failing;
+use super::failing_calls::is_failing;
 use super::{Failed, Files};
 
 /// How far an entry of `MemoryFiles` was read.
@@ -15,9 +15,9 @@ struct Place {
     at: usize,
 }
 
-/// Files in memory. A read gives at most `cut` bytes, and the calls whose numbers stand in `failing`
-/// fail; opens and reads are counted together from 1, and the number stays at 2^64 - 1 once it is there
-/// (own).
+/// Files in memory. A read gives at most `cut` bytes, and the calls whose numbers are in `failing`
+/// fail; opens and reads are counted together from 1, and the number stays at 2^64 - 1 once it is
+/// there.
 #[derive(Drop)]
 pub struct MemoryFiles {
     held: Vec<(String, Vec<u8>)>,
@@ -54,7 +54,7 @@ impl MemoryFiles {
         }
     }
 
-    /// Counts a call, and tells whether it is one of those that fail.
+    /// Counts a call. True where it is one of those that fail.
     fn count_call(&mut self) -> bool
         ensures fails { IsTrue result ↔ FailsNext self.old }
         ensures called { IsCalled self.old self.new }
@@ -74,9 +74,9 @@ impl MemoryFiles {
         ensures failing { self.new.failing.items ≡ self.old.failing.items }
         ensures calls { self.new.calls ≡ self.old.calls }
         ensures places { self.new.places ≡ self.old.places }
-        ensures rose { Rose (slice_index self.old.faults slot) (slice_index self.new.faults slot) }
-        ensures other_counts { SameElsewhere slot (λ k. slice_index self.old.faults k) (λ k. slice_index self.new.faults k) }
-        ensures later { (k : ℕ) → slice_index self.old.faults k ≤ slice_index self.new.faults k }
+        ensures increased { CountIncreased (faults_in self.old slot) (faults_in self.new slot) }
+        ensures other_counts { UnchangedExcept slot (faults_in self.old) (faults_in self.new) }
+        ensures later { (k : ℕ) → faults_in self.old k ≤ faults_in self.new k }
     {
         self.faults[slot] = self.faults[slot].saturating_add(1);
     }
@@ -93,39 +93,30 @@ impl MemoryFiles {
 }
 
 impl Files for MemoryFiles {
-    ghost use Rattle.byte_edge.specs.MemoryFiles.{IsCalled, FailsNext, entries_of, cut_of, faults_in, place_in, left_in};
+    ghost use Rattle.byte_edge.specs.MemoryFiles.{IsCalled, FailsNext, IsOpenIn, held_in, cut_of, faults_in, left_in};
 
-    ghost is_open = { λ files slot. IsSome (place_in files slot) };
+    ghost is_open = { IsOpenIn };
 
     ghost left = { left_in };
 
-    ghost held = { λ files name. held_under (entries_of files) name };
+    ghost held = { held_in };
 
     ghost faults = { faults_in };
 
-    /// Fails exactly where the number of the call stands in `failing`, or no entry has the name.
+    /// Fails exactly where the number of the call is in `failing`, or no entry has the name.
     fn open_file(&mut self, slot: usize, name: &str) -> Result<(), Failed>
         requires { slot < 3 }
 
-        ensures fails { IsErr result ↔ (FailsNext self.old ⊎ (held_under (entries_of self.old) name.now ≡ None)) }
+        ensures fails { IsErr result ↔ (FailsNext self.old ⊎ (held_in self.old name.now ≡ None)) }
         ensures called { IsCalled self.old self.new }
 
-        ensures opened { OnOk result (IsSome (place_in self.new slot)) }
-        ensures placed { OnOk result (left_in self.new slot ≡ held_under (entries_of self.old) name.now) }
+        ensures opened { OnOk result (IsOpenIn self.new slot) }
+        ensures placed { OnOk result (left_in self.new slot ≡ held_in self.old name.now) }
         ensures unmoved { OnErr result (left_in self.new slot ≡ left_in self.old slot) }
 
-        ensures stays_open { (k : ℕ) → IsSome (place_in self.old k) → IsSome (place_in self.new k) }
-        ensures names { (name : List ℕ)
-            → held_under (entries_of self.new) name ≡ held_under (entries_of self.old) name }
-        ensures other_slots { SameElsewhere slot (left_in self.old) (left_in self.new) }
-
-        ensures failed { OnErr result
-            (Rose (faults_in self.old slot) (faults_in self.new slot)) }
-        ensures counts { OnOk result
-            ((k : ℕ) → faults_in self.new k ≡ faults_in self.old k) }
-        ensures other_counts { SameElsewhere slot
-            (faults_in self.old) (faults_in self.new) }
-        ensures later { (k : ℕ) → faults_in self.old k ≤ faults_in self.new k }
+        ensures call { IsCallOn slot (is_err result)
+            (IsOpenIn self.old) (IsOpenIn self.new) (held_in self.old) (held_in self.new)
+            (left_in self.old) (left_in self.new) (faults_in self.old) (faults_in self.new) }
     {
         if self.count_call() {
             self.count_fault(slot);
@@ -139,11 +130,11 @@ impl Files for MemoryFiles {
         Ok(())
     }
 
-    /// Fails exactly where the number of the call stands in `failing`. Else it gives as many bytes as are
-    /// left, as `into` has room for, and at most `cut`.
+    /// Fails exactly where the number of the call is in `failing`. Else it gives as many bytes as
+    /// are left, as `into` has room for, and at most `cut`.
     fn read(&mut self, slot: usize, into: &mut [u8]) -> Result<usize, Failed>
         requires slot { slot < 3 }
-        requires opened { IsSome (place_in self.old slot) }
+        requires opened { IsOpenIn self.old slot }
         requires room { 0 < length into.old }
 
         ensures fails { IsErr result ↔ FailsNext self.old }
@@ -152,20 +143,12 @@ impl Files for MemoryFiles {
             (λ bytes. n ≡ min (length bytes) (min (length into.old) (cut_of self.old)))) }
 
         ensures bound { ReadsAtMost result into.new }
-        ensures bytes { ReadConsumes (left_in self.old slot) (left_in self.new slot) result into.new }
+        ensures bytes { ReadConsumes
+            (left_in self.old slot) (left_in self.new slot) result into.new }
 
-        ensures stays_open { (k : ℕ) → IsSome (place_in self.old k) → IsSome (place_in self.new k) }
-        ensures names { (name : List ℕ)
-            → held_under (entries_of self.new) name ≡ held_under (entries_of self.old) name }
-        ensures other_slots { SameElsewhere slot (left_in self.old) (left_in self.new) }
-
-        ensures failed { OnErr result
-            (Rose (faults_in self.old slot) (faults_in self.new slot)) }
-        ensures counts { OnOk result
-            ((k : ℕ) → faults_in self.new k ≡ faults_in self.old k) }
-        ensures other_counts { SameElsewhere slot
-            (faults_in self.old) (faults_in self.new) }
-        ensures later { (k : ℕ) → faults_in self.old k ≤ faults_in self.new k }
+        ensures call { IsCallOn slot (is_err result)
+            (IsOpenIn self.old) (IsOpenIn self.new) (held_in self.old) (held_in self.new)
+            (left_in self.old) (left_in self.new) (faults_in self.old) (faults_in self.new) }
     {
         if self.count_call() {
             self.count_fault(slot);
@@ -183,7 +166,7 @@ impl Files for MemoryFiles {
     }
 }
 
-/// Where the first entry with a name stands.
+/// The place of the first entry with a name.
 fn entry_named(held: &[(String, Vec<u8>)], name: &str) -> Option<usize>
     ensures { result ≡ position (has_name name.now) held.now }
 {

@@ -2,15 +2,15 @@
 ghost use Rattle.std.specs.Prelude.{◌≡◌, ◌+◌, ◌<◌, ◌≤◌, ◌↔◌, ◌⊎◌, ℕ, [], ◌++◌, Some, min, length, take, IfOk, OnOk, OnErr, IsErr, vec_len, vec_capacity};
 ghost use Rattle.std.specs.Io.{WritesAtMost};
 ghost use Rattle.std.specs.Io.KnownBytes.{WriteAppends};
-ghost use Rattle.byte_edge.specs.Devices.{Rose};
+ghost use Rattle.byte_edge.specs.Devices.{CountIncreased};
 
-use super::calls::is_failing;
+use super::failing_calls::is_failing;
 use super::{Failed, NoMemory, Sink};
 use std::alloc::Global;
 
-/// A sink in memory. A write takes at most `cut` bytes and no more than there is room for, and the calls
-/// whose numbers stand in `failing` fail; writes are counted from 1, and the number stays at 2^64 - 1 once
-/// it is there (own).
+/// A sink in memory. A write takes at most `cut` bytes and no more than there is room for, and the
+/// calls whose numbers are in `failing` fail; writes are counted from 1, and the number stays at
+/// 2^64 - 1 once it is there.
 #[derive(Drop)]
 pub struct MemorySink {
     bytes: Vec<u8>,
@@ -68,21 +68,24 @@ impl Sink for MemorySink {
 
     ghost faults = { faults_of };
 
-    /// Fails exactly where the number of the call stands in `failing`, or `bytes` is not empty and there
-    /// is no room. Else it takes as many bytes as there are, as there is room for, and at most `cut`.
+    /// Fails exactly where the number of the call is in `failing`, or `bytes` is not empty and
+    /// there is no room. Else it takes as many bytes as there are, as there is room for, and at
+    /// most `cut`.
     fn write(&mut self, bytes: &[u8]) -> Result<usize, Failed>
         ensures fails { IsErr result
             ↔ (FailsNext self.old ⊎ ((0 < length bytes.now) × (room_of self.old ≡ 0))) }
-        ensures count { IfOk result (λ n. n ≡ min (length bytes.now) (min (room_of self.old) (cut_of self.old))) }
+        ensures count { IfOk result
+            (λ n. n ≡ min (length bytes.now) (min (room_of self.old) (cut_of self.old))) }
         ensures room { IfOk result (λ n. room_of self.new + n ≡ room_of self.old) }
         ensures kept_room { OnErr result (room_of self.new ≡ room_of self.old) }
         ensures called { IsCalled self.old self.new }
 
         ensures bound { WritesAtMost result bytes.now }
         ensures progress { IfOk result (λ n. 0 < length bytes.now → 0 < n) }
-        ensures bytes { WriteAppends (Some (written_to self.old)) (Some (written_to self.new)) result bytes.now }
+        ensures bytes { WriteAppends
+            (Some (written_to self.old)) (Some (written_to self.new)) result bytes.now }
 
-        ensures failed { OnErr result (Rose (faults_of self.old) (faults_of self.new)) }
+        ensures failed { OnErr result (CountIncreased (faults_of self.old) (faults_of self.new)) }
         ensures counts { OnOk result (faults_of self.new ≡ faults_of self.old) }
         ensures later { faults_of self.old ≤ faults_of self.new }
     {

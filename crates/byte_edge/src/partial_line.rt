@@ -7,7 +7,7 @@ use super::NoMemory;
 use std::alloc::Global;
 use std::marker::Model;
 
-/// The first bytes of a line: as many as its room has place for. The rest is let go.
+/// The first bytes of a line, as many as there is room for. The rest is discarded.
 #[derive(Drop)]
 pub(crate) struct PartialLine {
     bytes: Vec<u8>,
@@ -16,9 +16,9 @@ pub(crate) struct PartialLine {
 
 impl Model for PartialLine {
     ghost use Rattle.std.specs.Prelude.{◌≤◌, ◌<◌, ◌^◌, vec_len, vec_capacity};
-    ghost use Rattle.byte_edge.specs.Part.{Kept};
+    ghost use Rattle.byte_edge.specs.internal.LineParts.{LinePrefix};
 
-    ghost Value = { Kept };
+    ghost Value = { LinePrefix };
 
     ghost view = { λ l. record { bytes = l.bytes.items; most = l.most } };
 

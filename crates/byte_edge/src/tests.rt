@@ -46,6 +46,29 @@ fn lines_come_whole_over_short_reads(rt: HostRuntime) -> Result<(), Fail> {
         return Err(Fail::from("the end"));
     };
     assert!(rt; !reader.spent());
+    assert!(rt; reader.has_line());
+    Ok(())
+}
+
+#[test]
+fn a_held_line_takes_no_read(rt: HostRuntime) -> Result<(), Fail> {
+    let mut files = one_file(rt.alloc(), b"a\nb\nc", 8, &[3])?;
+    files.open_file(0, "a")?;
+    let mut reader = LineReader::new(rt.alloc(), 0, 2, 10)?;
+    assert!(rt; !reader.has_line());
+    let Ok(Some(line)) = reader.next_line(&mut files) else {
+        return Err(Fail::from("the first line"));
+    };
+    assert_eq!(rt; line, b"a".as_slice());
+    assert!(rt; reader.has_line());
+    let Ok(Some(line)) = reader.next_line(&mut files) else {
+        return Err(Fail::from("the second line"));
+    };
+    assert_eq!(rt; line, b"b".as_slice());
+    assert!(rt; !reader.has_line());
+    let Err(ReadEnd::Fault) = reader.next_line(&mut files) else {
+        return Err(Fail::from("the fault"));
+    };
     Ok(())
 }
 

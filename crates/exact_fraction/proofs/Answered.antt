@@ -1,20 +1,19 @@
 -- What the calls answer, from the products that they compute at 128 bits.
-use Rattle.std.proofs.Common.{◌≡◌, ℕ, zero, suc, ◌*◌, ◌^◌, ◌<◌, Bool, true, false, cond, not, ℤ, pos, negsuc, neg_ℤ, ◌+ℤ◌, ◌-ℤ◌, ◌*ℤ◌, ◌<ℤ◌, Ok, Err, Ordering, Less, Equal, Greater, int_cmp, ◌==◌, is_lt, is_eq, is_le, is_gt, is_ge, refl, sym, ap, ap₂, ◌∙◌, subst, arith, to_z, of_z, mul-pos}
+use Rattle.std.proofs.Common.{◌≡◌, ℕ, zero, suc, ◌*◌, ◌^◌, ◌<◌, Bool, true, false, cond, not, ℤ, pos, negsuc, neg_ℤ, ◌+ℤ◌, ◌-ℤ◌, ◌*ℤ◌, ◌≤ℤ◌, ◌<ℤ◌, Ordering, Less, Equal, Greater, int_cmp, ◌==◌, is_lt, is_eq, is_le, is_gt, is_ge, refl, sym, ap, ap₂, ◌∙◌, subst, arith, to_z, of_z, mul-pos}
 use Rattle.std.specs.Prelude.{unsigned_abs, FitsSigned, int_lt}
 use Rattle.std.specs.Ordering.{is_ne}
 use Rattle.std.specs.Int.{w128}
 use Rattle.std.specs.Option.{ok_or}
 use Rattle.std.proofs.lemmas.Int.{ints, to_z-of_z, fits_signed_from_abs}
-use Rattle.std.proofs.lemmas.Bool.Decides.{nat_tests}
-use Rattle.exact_fraction.specs.Number.{Rational, den, ratio, fits}
+use Rattle.std.proofs.lemmas.Bool.{false≢true}
+use Rattle.exact_fraction.specs.Number.{Rational, den, ratio}
 use Rattle.exact_fraction.specs.Order.{compares, less, same}
 use Rattle.exact_fraction.specs.Operations.{sum_of, difference_of, product_of, quotient_of, quotient_parts, nearest_whole, round9_of}
-use Rattle.exact_fraction.specs.Checked.{made, checked, checked_quotient, is_zero}
+use Rattle.exact_fraction.specs.Checked.{made, checked, is_zero}
 use Rattle.exact_fraction.specs.declared.error.Overflow.{Overflow}
-use Rattle.exact_fraction.specs.declared.error.DivFault.TheVariants as fault
 use Rattle.exact_fraction.proofs.Lowest.{den_pos}
 use Rattle.exact_fraction.proofs.Sums.{dens_pos, size-sign}
-use Rattle.exact_fraction.proofs.Held.{wide, minus_is, made_fitting, made_or, made_checked}
+use Rattle.exact_fraction.proofs.Held.{wide, minus_is, made_checked}
 
 -- ---- products
 -- r is v, and it is passed whole
@@ -127,22 +126,6 @@ round9_made p r m d e a f g k =
     ∙ made_checked n (pos 1000000000) e (positive 1000000000 (omega arith))
 
 -- ---- quotients
-quotient_checked : (p q : Rational) (x : Rational) → is_zero q ≡ false → quotient_of p q ≡ x → cond (fits x) (Ok x) (Err fault.Overflow) ≡ checked_quotient p q
-unfolding checked_quotient
-quotient_checked p q x h e =
-    ap (λ y. cond (fits y) (Ok y) (Err fault.Overflow)) (sym e)
-    ∙ sym (ap (λ b. cond b (Err fault.Zero) (cond (fits (quotient_of p q)) (Ok (quotient_of p q)) (Err fault.Overflow))) h)
-
-made_quotient : (p q : Rational) (n d : ℤ) → pos 0 <ℤ d → is_zero q ≡ false → quotient_of p q ≡ ratio n (unsigned_abs d) → ok_or (made n d) fault.Overflow ≡ checked_quotient p q
-made_quotient p q n d h z e =
-    ap (λ x. ok_or x fault.Overflow) (made_fitting n d h)
-    ∙ made_or (ratio n (unsigned_abs d)) fault.Overflow
-    ∙ quotient_checked p q (ratio n (unsigned_abs d)) z e
-
-pub zero_divisor : (p q : Rational) → q.num ≡ pos 0 → Err fault.Zero ≡ checked_quotient p q
-unfolding checked_quotient is_zero
-zero_divisor p q h = sym (ap (λ n. cond (unsigned_abs n == 0) (Err fault.Zero) (cond (fits (quotient_of p q)) (Ok (quotient_of p q)) (Err fault.Overflow))) h)
-
 parts_up : (n m : ℤ) (d e : ℕ) → pos 0 <ℤ m → quotient_parts n d m e ≡ ratio (n *ℤ pos e) (d * unsigned_abs m)
 unfolding quotient_parts
 parts_up n (pos zero) d e h = absurd (omega (arith, ints))
@@ -154,22 +137,23 @@ unfolding quotient_parts
 parts_down n (pos m) d e h = absurd (omega (arith, ints))
 parts_down n (negsuc m) d e h = refl
 
-size_up : (m : ℤ) → pos 0 <ℤ m → m ≡ pos (unsigned_abs m)
-size_up (pos m) h = refl
+size_up : (m : ℤ) → pos 0 <ℤ m → (m ≡ pos (unsigned_abs m)) × (0 < unsigned_abs m)
+size_up (pos m) h = (refl, omega (arith, ints))
 size_up (negsuc m) h = absurd (omega (arith, ints))
 
-size_down : (m : ℤ) → m <ℤ pos 0 → neg_ℤ m ≡ pos (unsigned_abs m)
+size_down : (m : ℤ) → m <ℤ pos 0 → (neg_ℤ m ≡ pos (unsigned_abs m)) × (0 < unsigned_abs m)
 size_down (pos m) h = absurd (omega (arith, ints))
-size_down (negsuc m) h = refl
+size_down (negsuc m) h = (refl, omega arith)
 
-size_some : (m : ℤ) → ¬ (m ≡ pos 0) → 0 < unsigned_abs m
-size_some (pos zero) h = absurd (h refl)
-size_some (pos (suc m)) h = omega arith
-size_some (negsuc m) h = omega arith
-
-nonzero : (q : Rational) → ¬ (q.num ≡ pos 0) → is_zero q ≡ false
+-- a numerator that is not below 0, of a number that is not 0
+pub above_zero : (q : Rational) → is_zero q ≡ false → pos 0 ≤ℤ q.num → pos 0 <ℤ q.num
 unfolding is_zero
-nonzero q h = let k = size_some q.num h in grind (arith, nat_tests)
+above_zero q h k = by_size q.num refl
+  where
+    by_size : (m : ℤ) → q.num ≡ m → pos 0 <ℤ q.num
+    by_size (pos zero) e = absurd (false≢true (sym h ∙ ap (λ n. unsigned_abs n == 0) e))
+    by_size (pos (suc m)) e = omega (arith, ints)
+    by_size (negsuc m) e = absurd (omega (arith, ints))
 
 -- the size of a negative numerator, passed
 pub turned : (m : ℤ) → unsigned_abs m < 2 ^ 63 → (pos 0 -ℤ to_z w128 (of_z w128 m) ≡ neg_ℤ m) × (unsigned_abs (pos 0 -ℤ to_z w128 (of_z w128 m)) < 2 ^ 63) × (to_z w128 (of_z w128 (pos 0 -ℤ to_z w128 (of_z w128 m))) ≡ neg_ℤ m)
@@ -177,22 +161,29 @@ turned m h =
     let e = ap (λ x. pos 0 -ℤ x) (wide m h) ∙ minus_is m in
     (e, rw (e, size-sign m) h, ap (λ x. to_z w128 (of_z w128 x)) e ∙ wide (neg_ℤ m) (rw (size-sign m) h))
 
-pub quotient_up : (p q : Rational) (r t : ℤ) → Timed r (p.num *ℤ pos (den q)) → Timed t (pos (den p) *ℤ q.num) → pos 0 <ℤ q.num → ok_or (made (to_z w128 (of_z w128 r)) (to_z w128 (of_z w128 t))) fault.Overflow ≡ checked_quotient p q
-unfolding quotient_of
-quotient_up p q r t a b h =
-    let z = nonzero q (λ e. absurd (omega (arith, ints, e))) in
-    let size = size_up q.num h in
-    let d = b.passed ∙ ap (λ x. pos (den p) *ℤ x) size in
-    ap₂ (λ x y. ok_or (made x y) fault.Overflow) a.passed d
-    ∙ made_quotient p q (p.num *ℤ pos (den q)) (pos (den p * unsigned_abs q.num)) (positive _ (mul-pos (den_pos p) (size_some q.num (λ e. absurd (omega (arith, ints, e)))))) z (parts_up p.num q.num (den p) (den q) h)
+made_quotient : (p q : Rational) (n d : ℤ) (m : ℕ) (e : Overflow) → d ≡ pos (den p * m) → 0 < m
+    → quotient_of p q ≡ ratio n (den p * m) → ok_or (made n d) e ≡ checked (quotient_of p q)
+made_quotient p q n d m e h k is =
+    ap (λ x. ok_or (made n x) e) h
+    ∙ made_checked n (pos (den p * m)) e (positive _ (mul-pos (den_pos p) k))
+    ∙ ap checked (sym is)
 
-pub quotient_down : (p q : Rational) (r t : ℤ) → Timed r (p.num *ℤ pos (den q)) → Timed t (pos (den p) *ℤ neg_ℤ q.num) → q.num <ℤ pos 0 → ok_or (made (to_z w128 (of_z w128 (pos 0 -ℤ to_z w128 (of_z w128 r)))) (to_z w128 (of_z w128 t))) fault.Overflow ≡ checked_quotient p q
+pub quotient_up : (p q : Rational) (r t : ℤ) (e : Overflow) → Timed r (p.num *ℤ pos (den q)) → Timed t (pos (den p) *ℤ q.num)
+    → pos 0 <ℤ q.num → ok_or (made (to_z w128 (of_z w128 r)) (to_z w128 (of_z w128 t))) e ≡ checked (quotient_of p q)
 unfolding quotient_of
-quotient_down p q r t a b h =
+quotient_up p q r t e a b h =
+    let size = size_up q.num h in
+    let d = b.passed ∙ ap (λ x. pos (den p) *ℤ x) size.0 in
+    ap (λ x. ok_or (made x (to_z w128 (of_z w128 t))) e) a.passed
+    ∙ made_quotient p q (p.num *ℤ pos (den q)) (to_z w128 (of_z w128 t)) (unsigned_abs q.num) e d size.1 (parts_up p.num q.num (den p) (den q) h)
+
+pub quotient_down : (p q : Rational) (r t : ℤ) (e : Overflow) → Timed r (p.num *ℤ pos (den q)) → Timed t (pos (den p) *ℤ neg_ℤ q.num)
+    → q.num <ℤ pos 0 → ok_or (made (to_z w128 (of_z w128 (pos 0 -ℤ to_z w128 (of_z w128 r)))) (to_z w128 (of_z w128 t))) e ≡ checked (quotient_of p q)
+unfolding quotient_of
+quotient_down p q r t e a b h =
     let v = p.num *ℤ pos (den q) in
-    let z = nonzero q (λ e. absurd (omega (arith, ints, e))) in
     let size = size_down q.num h in
-    let d = b.passed ∙ ap (λ x. pos (den p) *ℤ x) size in
+    let d = b.passed ∙ ap (λ x. pos (den p) *ℤ x) size.0 in
     let n = ap (λ x. to_z w128 (of_z w128 (pos 0 -ℤ x))) a.passed ∙ ap (λ x. to_z w128 (of_z w128 x)) (minus_is v) ∙ to_z-of_z w128 (neg_ℤ v) (fits_126 (neg_ℤ v) (rw (size-sign v) a.size)) in
-    ap₂ (λ x y. ok_or (made x y) fault.Overflow) n d
-    ∙ made_quotient p q (neg_ℤ v) (pos (den p * unsigned_abs q.num)) (positive _ (mul-pos (den_pos p) (size_some q.num (λ e. absurd (omega (arith, ints, e)))))) z (parts_down p.num q.num (den p) (den q) h)
+    ap (λ x. ok_or (made x (to_z w128 (of_z w128 t))) e) n
+    ∙ made_quotient p q (neg_ℤ v) (to_z w128 (of_z w128 t)) (unsigned_abs q.num) e d size.1 (parts_down p.num q.num (den p) (den q) h)

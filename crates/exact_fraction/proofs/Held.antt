@@ -1,5 +1,5 @@
 -- Numbers as their two fields hold them, and the numbers that are made of two wide integers.
-use Rattle.std.proofs.Common.{◌≡◌, ℕ, zero, suc, pred, ◌^◌, ◌<◌, ◌≤◌, ◌⊎◌, Bool, true, false, cond, ℤ, pos, negsuc, neg_ℤ, ◌-ℤ◌, ◌<ℤ◌, Some, None, Ok, Err, refl, sym, ap, ap₂, ◌∙◌, arith, to_z, of_z, SFits, w64}
+use Rattle.std.proofs.Common.{◌≡◌, ℕ, zero, suc, pred, ◌^◌, ◌<◌, ◌≤◌, ◌⊎◌, Bool, true, false, cond, ℤ, pos, negsuc, neg_ℤ, ◌-ℤ◌, ◌<ℤ◌, Some, None, Ok, Err, refl, sym, ap, ap₂, ◌∙◌, arith, to_z, of_z, SFits, w32, w64}
 use Rattle.std.specs.Prelude.{unsigned_abs, FitsSigned, IsTrue}
 use Rattle.std.specs.Int.{w128}
 use Rattle.std.specs.Option.{ok_or}
@@ -31,6 +31,11 @@ fits_not q h = grind (arith, nat_tests)
 pub IsLowest-whole : (z : ℤ) → IsLowest (whole z)
 unfolding whole den
 IsLowest-whole z = record { coprime = (one-dvd (unsigned_abs z), one-dvd 1, λ d u v. v) }
+
+-- a whole number that fits
+pub IsNumber-whole : (z : ℤ) → unsigned_abs z < 2 ^ 63 → IsNumber (whole z)
+unfolding whole den
+IsNumber-whole z h = record { lowest = IsLowest-whole z; fitting = fits_from (whole z) h (omega arith) }
 
 -- ---- fields
 pub den-pair : (n d : ℤ) → pos 0 <ℤ d → pos (den (pair n (pred (unsigned_abs d)))) ≡ d
@@ -68,6 +73,13 @@ widened n h = ap (λ x. to_z w128 (of_z w128 x)) (narrow n h) ∙ wide n h
 
 pub narrowed : (n : ℤ) → unsigned_abs n < 2 ^ 63 → to_z w64 (of_z w64 (to_z w128 (of_z w128 n))) ≡ n
 narrowed n h = ap (λ x. to_z w64 (of_z w64 x)) (wide n h) ∙ narrow n h
+
+-- a number of 32 bits at 64 bits
+pub widened_32 : (n : ℤ) → SFits w32 n
+    → (to_z w64 (of_z w64 (to_z w32 (of_z w32 n))) ≡ n) × (unsigned_abs n < 2 ^ 63)
+widened_32 n h =
+    let small : unsigned_abs n < 2 ^ 63 = omega (arith, ints) in
+    (ap (λ x. to_z w64 (of_z w64 x)) (to_z-of_z w32 n h) ∙ narrow n small, small)
 
 -- ---- signs
 pub minus_is : (n : ℤ) → pos 0 -ℤ n ≡ neg_ℤ n

@@ -17,7 +17,8 @@ mod_scaled a b c p q =
     ∙ mul-add-mod_self_right (a / b) (b * c) ((a % b) * c)
     ∙ mod-eq_of_lt (mul-lt-mul_of_pos_right (mod-lt a p) q)
 
--- Euclid's remainders of two numbers, multiplied, give the greatest common divisor of their multiples
+-- Euclid's remainders of two numbers, multiplied, give the greatest common divisor of their
+-- multiples
 IsGcd-scaled : (turns a b c : ℕ) → 0 < c → b < turns → IsGcd (a * c) (b * c) (last_remainder turns a b * c)
 unfolding last_remainder
 IsGcd-scaled zero a b c p h = absurd (omega arith)
@@ -47,7 +48,7 @@ same_denominator a d b e p q g h s =
     (divides_other b e d p h (rw (← s) (dvd-mul_left e a)))
 
 -- ---- ratios
-size-neg : (k : ℕ) → unsigned_abs (neg_ℤ (pos k)) ≡ k
+pub size-neg : (k : ℕ) → unsigned_abs (neg_ℤ (pos k)) ≡ k
 size-neg zero = refl
 size-neg (suc k) = refl
 

@@ -4,7 +4,7 @@ use Rattle.std.proofs.Math.Nat.{eq_of_mul-eq-mul_right}
 use Rattle.std.specs.Ordering.{MatchOrdering}
 use Rattle.std.proofs.lemmas.Int.{ints}
 use Rattle.std.proofs.lemmas.Cmp.{int_ranked}
-use Rattle.std.proofs.lemmas.Bool.{false≢true}
+use Rattle.std.proofs.lemmas.Bool.{false≢true, not-true}
 use Rattle.std.proofs.lemmas.Bool.Decides.{Decides-int_eq}
 use Rattle.exact_fraction.specs.Number.{Rational, den}
 use Rattle.exact_fraction.specs.Order.{◌≤ℚ◌, ◌<ℚ◌, ◌=ℚ◌, compares, less, same, lesser_of, greater_of}
@@ -140,15 +140,8 @@ pub compares_ranks : (p q : Rational) → MatchOrdering (compares p q) (p <ℚ q
 unfolding compares
 compares_ranks p q = ranked p q (compares p q) (int_ranked (p.num *ℤ pos (den q)) (q.num *ℤ pos (den p)) (compares p q) refl)
 
-pub not_true : (b : Bool) → not b ≡ true → b ≡ false
-not_true true e = sym e
-not_true false e = refl
-
-pub not_false : (b : Bool) → b ≡ false → not b ≡ true
-not_false b e = ap not e
-
 pub unequal_tells : (p q : Rational) → not (same p q) ≡ true → ¬ (p =ℚ q)
-unequal_tells p q e h = false≢true (sym (not_true (same p q) e) ∙ true_same p q h)
+unequal_tells p q e h = false≢true (sym (not-true (same p q) e) ∙ true_same p q h)
 
 pub unequal_test : (p q : Rational) → ¬ (p =ℚ q) → not (same p q) ≡ true
 unequal_test p q h = by_test (same p q) refl

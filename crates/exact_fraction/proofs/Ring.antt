@@ -1,5 +1,5 @@
--- Equations and orders of polynomials over ℤ, decided by `omega arith` over ℕ: a polynomial is read as its positive part
--- less its negative part.
+-- Equations and orders of polynomials over ℤ, decided by `omega arith` over ℕ: a polynomial is read
+-- as its positive part less its negative part.
 use Rattle.std.proofs.Common.{◌≡◌, ℕ, ◌+◌, ◌*◌, ◌<◌, ◌≤◌, Bool, true, false, ℤ, pos, neg_ℤ, ◌+ℤ◌, ◌-ℤ◌, ◌*ℤ◌, ◌≤ℤ◌, ◌<ℤ◌, ap, arith}
 use borrow.Author.Differences.{up, down, same_in, same_out, at_most_in, below_in, le_out, lt_out, sum_is_lem, neg_is, product_is}
 

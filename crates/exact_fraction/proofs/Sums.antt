@@ -17,7 +17,8 @@ unfolding sum_of
 sum_commutes p q =
     ap₂ ratio (ring (plus (by (at p.num) (nat (den q))) (by (at q.num) (nat (den p)))) (plus (by (at q.num) (nat (den p))) (by (at p.num) (nat (den q)))) (omega arith)) (mul_comm (den p) (den q))
 
--- (a/b + c/d) + e/f and a/b + (c/d + e/f), where s is a numerator of the first sum and t one of the second
+-- (a/b + c/d) + e/f and a/b + (c/d + e/f), where s is a numerator of the first sum and t one of the
+-- second
 associated : (a c e s t : ℤ) (b d f k l : ℕ) → 0 < b * d → 0 < d * f → s *ℤ pos (b * d) ≡ (a *ℤ pos d +ℤ c *ℤ pos b) *ℤ pos k → t *ℤ pos (d * f) ≡ (c *ℤ pos f +ℤ e *ℤ pos d) *ℤ pos l → (s *ℤ pos f +ℤ e *ℤ pos k) *ℤ pos (b * l) ≡ (a *ℤ pos l +ℤ t *ℤ pos b) *ℤ pos (k * f)
 associated a c e s t b d f k l p q h g =
     let x = ap (λ n. n * (f * (b * l) * (d * f))) (parts_same (by (at s) (nat (b * d))) (by (plus (by (at a) (nat d)) (by (at c) (nat b))) (nat k)) h) in

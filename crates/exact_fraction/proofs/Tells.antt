@@ -51,3 +51,6 @@ quotient_tells p q = by_tests (is_zero q) (fits (quotient_of p q))
 
 -- the tests, and the order that they test
 pub ruleset order_tests = (less_tells, same_tells, eq_compares, ne_compares, lt_compares, le_compares, gt_compares, ge_compares)
+
+-- the answers of a quotient, checked with and without a test of the divisor
+pub ruleset quotient_tests = (checked_tells, quotient_tells)

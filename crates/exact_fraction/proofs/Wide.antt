@@ -1,7 +1,8 @@
--- Products, quotients and roundings that are computed at 128 bits.
+-- Products and roundings that are computed at 128 bits, and lowest terms at 64 or 128 bits.
 use Rattle.std.proofs.Common.{◌≡◌, ℕ, suc, ◌+◌, ◌*◌, ◌/◌, ◌^◌, ◌<◌, ℤ, pos, negsuc, neg_ℤ, ◌-ℤ◌, ◌*ℤ◌, ◌≤ℤ◌, ◌<ℤ◌, refl, sym, ap, ap₂, ◌∙◌, arith, div-lt_iff_lt-mul, le-mul_of_pos_right, to_z, of_z, SFits}
 use Rattle.std.specs.Prelude.{unsigned_abs, int_div, FitsSigned}
-use Rattle.std.specs.Int.{w128}
+use mir.Val.{hbits}
+use Rattle.std.specs.Int.{Width, w128}
 use Rattle.std.proofs.lemmas.Nat.{mul-lt}
 use Rattle.std.proofs.lemmas.Nat.Gcd.{le_of_dvd}
 use Rattle.std.proofs.lemmas.Int.{ints, to_z-of_z, to_z_pos, unsigned_abs-mul, fits_signed_from_abs, quot_fits}
@@ -19,55 +20,66 @@ product_passed a b f g p q =
     ∙ ap (λ x. to_z w128 (of_z w128 (a *ℤ x))) (to_z-of_z w128 b g)
     ∙ to_z-of_z w128 (a *ℤ b) (fits_signed_from_abs w128 (a *ℤ b) (omega (arith, product_size a b p q)))
 
--- ---- lowest terms
+-- ---- lowest terms, at a width of w bits
 size_pos : (d : ℤ) → pos 0 <ℤ d → (pos (unsigned_abs d) ≡ d) × (0 < unsigned_abs d)
 size_pos (pos n) h = (refl, omega (arith, ints))
 size_pos (negsuc n) h = absurd (omega (arith, ints))
 
-size_fits : (d : ℤ) → pos 0 <ℤ d → SFits w128 d → unsigned_abs d < 2 ^ 127
-size_fits (pos n) h f = f.sfits
-size_fits (negsuc n) h f = absurd (omega (arith, ints))
+size_fits : (w : Width) (d : ℤ) → pos 0 <ℤ d → SFits w d → unsigned_abs d < 2 ^ hbits w
+size_fits w (pos n) h f = f.sfits
+size_fits w (negsuc n) h f = absurd (omega (arith, ints))
 
-pub divisor_fits : (n d : ℤ) (g : ℕ) → pos 0 <ℤ d → SFits w128 d → g ≡ gcd (unsigned_abs n) (unsigned_abs d) → (0 < g) × (g < 2 ^ 127)
-divisor_fits n d g h f e =
+pub divisor_fits : (w : Width) (n d : ℤ) (g : ℕ) → pos 0 <ℤ d → SFits w d
+    → g ≡ gcd (unsigned_abs n) (unsigned_abs d) → (0 < g) × (g < 2 ^ hbits w)
+divisor_fits w n d g h f e =
     let p = (size_pos d h).1 in
     let a = gcd_pos (unsigned_abs n) (unsigned_abs d) p in
     let b = le_of_dvd p (IsGcd-gcd (unsigned_abs n) (unsigned_abs d)).1 in
-    let c = size_fits d h f in
-    (omega arith, omega arith)
+    let c = size_fits w d h f in
+    (omega (arith, a, e), omega (arith, b, c, e))
 
-quotient_fits : (n : ℤ) (g : ℕ) → SFits w128 n → 0 < g → FitsSigned w128 (int_div n (pos g))
-quotient_fits n g f p = quot_fits w128 n (pos g) f (omega (arith, ints))
+quotient_fits : (w : Width) (n : ℤ) (g : ℕ) → SFits w n → 0 < g → FitsSigned w (int_div n (pos g))
+quotient_fits w n g f p = quot_fits w n (pos g) f (omega (arith, ints))
 
-quotient_passed : (n : ℤ) (g : ℕ) → SFits w128 n → 0 < g → g < 2 ^ 127 → to_z w128 (of_z w128 (int_div (to_z w128 (of_z w128 n)) (to_z w128 g))) ≡ int_div n (pos g)
-quotient_passed n g f p q =
-    ap (λ x. to_z w128 (of_z w128 (int_div x (to_z w128 g)))) (to_z-of_z w128 n f)
-    ∙ ap (λ x. to_z w128 (of_z w128 (int_div n x))) (to_z_pos w128 g q)
-    ∙ to_z-of_z w128 (int_div n (pos g)) (quotient_fits n g f p)
+quotient_passed : (w : Width) (n : ℤ) (g : ℕ) → SFits w n → 0 < g → g < 2 ^ hbits w
+    → to_z w (of_z w (int_div (to_z w (of_z w n)) (to_z w g))) ≡ int_div n (pos g)
+quotient_passed w n g f p q =
+    ap (λ x. to_z w (of_z w (int_div x (to_z w g)))) (to_z-of_z w n f)
+    ∙ ap (λ x. to_z w (of_z w (int_div n x))) (to_z_pos w g q)
+    ∙ to_z-of_z w (int_div n (pos g)) (quotient_fits w n g f p)
 
-pub divisor_divides : (n d : ℤ) (g : ℕ) (m : ℤ) → pos 0 <ℤ d → SFits w128 d → SFits w128 m → g ≡ gcd (unsigned_abs n) (unsigned_abs d) → (0 < g) × FitsSigned w128 (int_div (to_z w128 (of_z w128 m)) (to_z w128 g))
-divisor_divides n d g m h f k e =
-    let b = divisor_fits n d g h f e in
-    (b.0, rw (to_z-of_z w128 m k, to_z_pos w128 g b.1) (quotient_fits m g k b.0))
+pub divisor_divides : (w : Width) (n d : ℤ) (g : ℕ) (m : ℤ) → pos 0 <ℤ d → SFits w d → SFits w m
+    → g ≡ gcd (unsigned_abs n) (unsigned_abs d)
+    → (0 < g) × FitsSigned w (int_div (to_z w (of_z w m)) (to_z w g))
+divisor_divides w n d g m h f k e =
+    let b = divisor_fits w n d g h f e in
+    (b.0, rw (to_z-of_z w m k, to_z_pos w g b.1) (quotient_fits w m g k b.0))
 
-pub reduced_num : (n d : ℤ) (g : ℕ) → pos 0 <ℤ d → SFits w128 n → SFits w128 d → g ≡ gcd (unsigned_abs n) (unsigned_abs d) → to_z w128 (of_z w128 (int_div (to_z w128 (of_z w128 n)) (to_z w128 g))) ≡ (ratio n (unsigned_abs d)).num
+pub num_reduced : (w : Width) (n d : ℤ) (g : ℕ) → pos 0 <ℤ d → SFits w n → SFits w d
+    → g ≡ gcd (unsigned_abs n) (unsigned_abs d)
+    → to_z w (of_z w (int_div (to_z w (of_z w n)) (to_z w g))) ≡ (ratio n (unsigned_abs d)).num
 unfolding ratio
-reduced_num n d g h k f e =
-    let b = divisor_fits n d g h f e in
-    quotient_passed n g k b.0 b.1
+num_reduced w n d g h k f e =
+    let b = divisor_fits w n d g h f e in
+    let a = unsigned_abs n in
+    let c = unsigned_abs d in
+    quotient_passed w n g k b.0 b.1
     ∙ ap (λ x. int_div n (pos x)) e
-    ∙ sym (num-cancelled n (unsigned_abs d) (gcd (unsigned_abs n) (unsigned_abs d)) (gcd_pos (unsigned_abs n) (unsigned_abs d) (size_pos d h).1))
+    ∙ sym (num-cancelled n c (gcd a c) (gcd_pos a c (size_pos d h).1))
 
-pub reduced_den : (n d : ℤ) (g : ℕ) → pos 0 <ℤ d → SFits w128 d → g ≡ gcd (unsigned_abs n) (unsigned_abs d) → to_z w128 (of_z w128 (int_div (to_z w128 (of_z w128 d)) (to_z w128 g))) ≡ pos (den (ratio n (unsigned_abs d)))
+pub den_reduced : (w : Width) (n d : ℤ) (g : ℕ) → pos 0 <ℤ d → SFits w d
+    → g ≡ gcd (unsigned_abs n) (unsigned_abs d)
+    → to_z w (of_z w (int_div (to_z w (of_z w d)) (to_z w g))) ≡ pos (den (ratio n (unsigned_abs d)))
 unfolding ratio
-reduced_den n d g h f e =
-    let b = divisor_fits n d g h f e in
+den_reduced w n d g h f e =
+    let b = divisor_fits w n d g h f e in
     let s = size_pos d h in
-    let m = gcd (unsigned_abs n) (unsigned_abs d) in
-    quotient_passed d g f b.0 b.1
+    let a = unsigned_abs n in
+    let c = unsigned_abs d in
+    quotient_passed w d g f b.0 b.1
     ∙ ap (λ x. int_div d (pos x)) e
-    ∙ ap (λ x. int_div x (pos m)) (sym s.0)
-    ∙ ap pos (sym (den-cancelled n (unsigned_abs d) m s.1 (gcd_pos (unsigned_abs n) (unsigned_abs d) s.1) (IsGcd-gcd (unsigned_abs n) (unsigned_abs d)).1))
+    ∙ ap (λ x. int_div x (pos (gcd a c))) (sym s.0)
+    ∙ ap pos (sym (den-cancelled n c (gcd a c) s.1 (gcd_pos a c s.1) (IsGcd-gcd a c).1))
 
 -- ---- rounding
 nearest_size_small : (n d : ℕ) → 0 < d → (2 * n + d) / (2 * d) < n + 1
@@ -92,11 +104,18 @@ nearest_negative (negsuc n) s d h p q e =
     ∙ minus_passed ((2 * suc n + d) / (2 * d)) (omega (arith, nearest_size_small (suc n) d p))
 
 -- ---- sizes of numbers that were passed
-size_passed : (n : ℤ) (u : ℕ) → SFits w128 n → u ≡ unsigned_abs (to_z w128 (of_z w128 n)) → u ≡ unsigned_abs n
-size_passed n u f e = e ∙ ap unsigned_abs (to_z-of_z w128 n f)
+size_passed : (w : Width) (n : ℤ) (u : ℕ) → SFits w n → u ≡ unsigned_abs (to_z w (of_z w n))
+    → u ≡ unsigned_abs n
+size_passed w n u f e = e ∙ ap unsigned_abs (to_z-of_z w n f)
 
-pub divisor_passed : (n d : ℤ) (u v g : ℕ) → SFits w128 n → SFits w128 d → u ≡ unsigned_abs (to_z w128 (of_z w128 n)) → v ≡ unsigned_abs (to_z w128 (of_z w128 d)) → g ≡ gcd u v → g ≡ gcd (unsigned_abs n) (unsigned_abs d)
-divisor_passed n d u v g f k a b e = e ∙ ap₂ gcd (size_passed n u f a) (size_passed d v k b)
+pub divisor_passed : (w : Width) (n d : ℤ) (u v g : ℕ) → SFits w n → SFits w d
+    → u ≡ unsigned_abs (to_z w (of_z w n)) → v ≡ unsigned_abs (to_z w (of_z w d)) → g ≡ gcd u v
+    → g ≡ gcd (unsigned_abs n) (unsigned_abs d)
+divisor_passed w n d u v g f k a b e = e ∙ ap₂ gcd (size_passed w n u f a) (size_passed w d v k b)
 
-pub rounded_passed : (n d : ℤ) (u v : ℕ) (s : ℤ) → SFits w128 n → SFits w128 d → u ≡ unsigned_abs (to_z w128 (of_z w128 n)) → v ≡ unsigned_abs (to_z w128 (of_z w128 d)) → s ≡ pos ((2 * u + v) / (2 * v)) → s ≡ pos ((2 * unsigned_abs n + unsigned_abs d) / (2 * unsigned_abs d))
-rounded_passed n d u v s f k a b e = e ∙ ap₂ (λ x y. pos ((2 * x + y) / (2 * y))) (size_passed n u f a) (size_passed d v k b)
+pub rounded_passed : (n d : ℤ) (u v : ℕ) (s : ℤ) → SFits w128 n → SFits w128 d
+    → u ≡ unsigned_abs (to_z w128 (of_z w128 n)) → v ≡ unsigned_abs (to_z w128 (of_z w128 d))
+    → s ≡ pos ((2 * u + v) / (2 * v))
+    → s ≡ pos ((2 * unsigned_abs n + unsigned_abs d) / (2 * unsigned_abs d))
+rounded_passed n d u v s f k a b e =
+    e ∙ ap₂ (λ x y. pos ((2 * x + y) / (2 * y))) (size_passed w128 n u f a) (size_passed w128 d v k b)

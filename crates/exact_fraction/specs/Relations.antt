@@ -5,7 +5,8 @@ use Rattle.exact_fraction.specs.Order.{less, same}
 use Rattle.exact_fraction.specs.declared.relation.Relation.{Relation}
 use Rattle.exact_fraction.specs.declared.relation.Relation.TheVariants.{Eq, Ne, Lt, Le, Gt, Ge}
 
--- whether p stands in the relation to q; the relations are those of the control rules (SWMM 5.2 manual, control rules)
+-- whether p stands in the relation to q; the relations are those of the control rules (SWMM 5.2
+-- manual, control rules)
 abbrev pub relates : Relation → Rational → Rational → Bool
 relates Eq p q = same p q
 relates Ne p q = not (same p q)

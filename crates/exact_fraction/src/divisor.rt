@@ -1,10 +1,36 @@
 //! Lowest terms and nearest whole numbers, on plain integers.
-ghost use Rattle.std.specs.Prelude.{◌≡◌, ◌≤◌, ◌<◌, ◌^◌, ◌+◌, ◌*◌, ◌/◌, pos, ◌<ℤ◌, ◌*ℤ◌, unsigned_abs};
+ghost use Rattle.std.specs.Prelude.{
+  ◌≡◌,
+  ◌≤◌,
+  ◌<◌,
+  ◌^◌,
+  ◌+◌,
+  ◌*◌,
+  ◌/◌,
+  pos,
+  ◌<ℤ◌,
+  ◌*ℤ◌,
+  unsigned_abs,
+};
 ghost use Rattle.exact_fraction.specs.Number.{den, gcd, ratio};
 ghost use Rattle.exact_fraction.specs.Operations.{nearest_whole};
 
-/// The greatest common divisor of `a` and `b`, by Euclid's remainders: at most 185 of them at 128 bits.
-fn greatest_common_divisor(a: u128, b: u128) -> u128
+/// The greatest common divisor, by Euclid's remainders: at most 185 of them at 128 bits.
+fn wide_divisor(a: u128, b: u128) -> u128
+    ensures { result ≡ gcd a b }
+{
+    let mut x = a;
+    let mut y = b;
+    while y != 0 {
+        let rest = x % y;
+        x = y;
+        y = rest;
+    }
+    x
+}
+
+/// The greatest common divisor, by Euclid's remainders: at most 93 of them at 64 bits.
+fn narrow_divisor(a: u64, b: u64) -> u64
     ensures { result ≡ gcd a b }
 {
     let mut x = a;
@@ -18,12 +44,37 @@ fn greatest_common_divisor(a: u128, b: u128) -> u128
 }
 
 /// The numerator and the denominator of `n / d` in lowest terms.
-pub(crate) fn reduced(n: i128, d: i128) -> (i128, i128)
+///
+/// Two numbers that fit 64 bits, as most do, are divided at 64 bits, where a division is faster.
+pub(crate) fn lowest_terms(n: i128, d: i128) -> (i128, i128)
     requires { pos 0 <ℤ d }
     ensures num { result.0 ≡ (ratio n (unsigned_abs d)).num }
     ensures den { result.1 ≡ pos (den (ratio n (unsigned_abs d))) }
 {
-    let divisor = greatest_common_divisor(n.unsigned_abs(), d.unsigned_abs()) as i128;
+    if let (Ok(narrow_n), Ok(narrow_d)) = (i64::try_from(n), i64::try_from(d)) {
+        let (num, den) = narrow_terms(narrow_n, narrow_d);
+        return (num as i128, den as i128);
+    }
+    wide_terms(n, d)
+}
+
+/// The numerator and the denominator of `n / d` in lowest terms, at 128 bits.
+fn wide_terms(n: i128, d: i128) -> (i128, i128)
+    requires { pos 0 <ℤ d }
+    ensures num { result.0 ≡ (ratio n (unsigned_abs d)).num }
+    ensures den { result.1 ≡ pos (den (ratio n (unsigned_abs d))) }
+{
+    let divisor = wide_divisor(n.unsigned_abs(), d.unsigned_abs()) as i128;
+    (n / divisor, d / divisor)
+}
+
+/// The numerator and the denominator of `n / d` in lowest terms, at 64 bits.
+fn narrow_terms(n: i64, d: i64) -> (i64, i64)
+    requires { pos 0 <ℤ d }
+    ensures num { result.0 ≡ (ratio n (unsigned_abs d)).num }
+    ensures den { result.1 ≡ pos (den (ratio n (unsigned_abs d))) }
+{
+    let divisor = narrow_divisor(n.unsigned_abs(), d.unsigned_abs()) as i64;
     (n / divisor, d / divisor)
 }
 

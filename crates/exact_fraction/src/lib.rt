@@ -1,6 +1,7 @@
 //! Exact fractions, moments and the relations of conditions.
 #![tactic(auto)]
 
+mod decimal;
 mod divisor;
 pub mod error;
 pub mod frac;

@@ -4,7 +4,8 @@ ghost use Rattle.exact_fraction.specs.Moments.{IsMoment, moment_at};
 
 use std::marker::Model;
 
-/// A second of the years 1 to 9999, counted from 1970-01-01T00:00:00 without leap seconds and without zones (own).
+/// A second of the years 1 to 9999, counted from 1970-01-01T00:00:00 without leap seconds and
+/// without zones.
 #[derive(Clone, Copy, Debug, PartialEq, Eq)]
 pub struct Moment {
     seconds: i64,
@@ -24,7 +25,8 @@ impl Model for Moment {
 }
 
 impl Moment {
-    /// The moment at `seconds` since 1970-01-01T00:00:00: None exactly where it lies outside the years 1 to 9999 (own).
+    /// The moment at `seconds` since 1970-01-01T00:00:00: None exactly where it lies outside the
+    /// years 1 to 9999.
     pub fn make(seconds: i64) -> Option<Moment>
         ensures value { result ≡ moment_at seconds }
         ensures range { IfSome result (λ m. IsMoment m) }
@@ -37,7 +39,7 @@ impl Moment {
         Some(Moment { seconds })
     }
 
-    /// The seconds since 1970-01-01T00:00:00 (own).
+    /// The seconds since 1970-01-01T00:00:00.
     pub fn seconds(self) -> i64
         ensures value { result ≡ self }
         ensures range { IsMoment self }

@@ -23,7 +23,7 @@ pub enum Relation {
 impl Relation {
     ghost use Rattle.exact_fraction.specs.Relations.{relates};
 
-    /// Whether `left` stands in the relation to `right` (own).
+    /// Whether `left` stands in the relation to `right`.
     #[tactic(auto, using(crate::proofs::Tells::order_tests))]
     pub fn holds(self, left: &Frac, right: &Frac) -> bool
         ensures value { result ≡ relates self left.now right.now }

@@ -51,6 +51,56 @@ fn computes(rt: HostRuntime) {
 }
 
 #[test]
+fn makes_whole_numbers(rt: HostRuntime) {
+    assert_eq!(rt;
+        parts(Some(Frac::whole(-2147483648))),
+        Some((-2147483648, 1))
+    );
+    assert_eq!(rt;
+        parts(Some(Frac::natural(4294967295))),
+        Some((4294967295, 1))
+    );
+    assert!(rt; Frac::whole(0).is_zero());
+    assert!(rt; !Frac::natural(1).is_zero());
+    assert!(rt; Frac::whole(-1).is_less(&Frac::zero()));
+    assert!(rt; !Frac::zero().is_less(&Frac::zero()));
+}
+
+#[test]
+fn makes_decimals(rt: HostRuntime) {
+    assert_eq!(rt; parts(Frac::decimal(12345, 3)), Some((2469, 200)));
+    assert_eq!(rt; parts(Frac::decimal(-1500, 2)), Some((-15, 1)));
+    assert_eq!(rt; parts(Frac::decimal(0, 4294967295)), Some((0, 1)));
+    assert_eq!(rt; parts(Frac::decimal(7, 0)), Some((7, 1)));
+    assert_eq!(rt; parts(Frac::decimal(1, 18)), Some((1, 1000000000000000000)));
+    assert_eq!(rt; parts(Frac::decimal(1, 19)), None);
+    assert_eq!(rt; parts(Frac::decimal(-9223372036854775808, 63)), None);
+    assert_eq!(rt;
+        parts(Frac::decimal(-9223372036854775808, 27)),
+        Some((-68719476736, 7450580596923828125))
+    );
+    assert_eq!(rt;
+        parts(Frac::decimal(9223372036854775807, 0)),
+        Some((9223372036854775807, 1))
+    );
+    assert_eq!(rt; parts(Frac::decimal(-9223372036854775808, 0)), None);
+}
+
+#[test]
+fn divides(rt: HostRuntime) {
+    let half = Frac::make(1, 2).expect(&rt, "one half");
+    let greatest = Frac::make(9223372036854775807, 1).expect(&rt, "the greatest number");
+    let low = Frac::whole(-3);
+    let two = Frac::natural(2);
+    assert!(rt; !low.is_zero());
+    assert!(rt; !two.is_zero());
+    assert!(rt; !half.is_zero());
+    assert_eq!(rt; parts(half.quotient(low).ok()), Some((-1, 6)));
+    assert_eq!(rt; parts(half.quotient(two).ok()), Some((1, 4)));
+    assert!(rt; greatest.quotient(half) == Err(Overflow));
+}
+
+#[test]
 fn bounds_moments(rt: HostRuntime) {
     assert!(rt; Moment::make(-62_135_596_801).is_none());
     assert!(rt; Moment::make(253_402_300_800).is_none());

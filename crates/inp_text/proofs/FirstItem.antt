@@ -3,7 +3,7 @@ use Rattle.std.proofs.Common.{◌≡◌, ℕ, Bool, true, false, List, [], ◌�
 use Rattle.std.specs.Prelude.{if◌then◌else◌}
 use Rattle.inp_text.specs.Items.{is_blank, begins_blank, onto_first, words}
 use Rattle.inp_text.specs.Headings.{first_of}
-use Rattle.inp_text.specs.FirstItems.{take_solid, drop_blanks}
+use Rattle.inp_text.specs.internal.FirstItems.{take_solid, drop_blanks}
 
 -- a byte before a run begins it
 first_of-onto_first : (byte : ℕ) (found : List (List ℕ)) → first_of (onto_first byte found) ≡ byte ∷ first_of found

@@ -1,6 +1,8 @@
 pub mod WordLemmas
 pub mod PlaceLemmas
 pub mod FirstItem
-pub mod Standing
+pub mod Representing
 pub mod Belongs
 pub mod Members
+pub mod Merging
+pub mod PublicLaws

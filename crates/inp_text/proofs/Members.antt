@@ -221,7 +221,7 @@ both : (a b : Bool) → (a && b) ≡ true → (a ≡ true) × (b ≡ true)
 both true b e = (refl, e)
 both false b e = cc
 
-same_kind : (kind other : SectionKind) → is_kind kind other ≡ true → other ≡ kind
+pub same_kind : (kind other : SectionKind) → is_kind kind other ≡ true → other ≡ kind
 same_kind Options Options e = refl
 same_kind Gages Gages e = refl
 same_kind Junctions Junctions e = refl

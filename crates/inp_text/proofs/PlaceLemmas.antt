@@ -1,4 +1,5 @@
--- The places of the items of a line are its longest runs of bytes that are no blanks, and the texts there are its items.
+-- The places of the items of a line are its longest runs of bytes that are no blanks, and the texts
+-- there are its items.
 use Rattle.std.proofs.Common.{◌≡◌, ℕ, ◌+◌, ◌-◌, ◌<◌, ◌≤◌, inl, inr, Bool, true, false, List, [], ◌∷◌, ◌++◌, length, get_or, drop, All, AllPairs, Contains, refl, ap, sym, ◌∙◌, subst, arith, append_assoc}
 use Rattle.std.proofs.lemmas.List.{drop_more}
 use Rattle.std.proofs.lemmas.List.Elements.{All-append, All-cons, All-nil, All-weaker, All-contains, Contains-append_left, Contains-append_right}
@@ -32,7 +33,8 @@ texts-places_from text (byte ∷ rest) places start at long e cut =
     ∙ texts-places_from text rest (places ++ place_between start at) (at + 1) (at + 1) (omega (arith, long)) here.1 (IsCut-blank text places start at cut inside (ap is_blank (sym here.0) ∙ blank)))
     (λ solid. texts-places_from text rest places start (at + 1) (omega (arith, long)) here.1 (IsCut-solid text places start at cut inside (ap is_blank (sym here.0) ∙ solid)))
 
--- a run of bytes that are no blanks goes from `start` up to an index, and no word goes over the index before it
+-- a run of bytes that are no blanks goes from `start` up to an index, and no word goes over the
+-- index before it
 record IsGoingOn (text : List ℕ) (start at : ℕ) : Type 0 where
   begun : start ≤ at
   solid : (k : ℕ) → start ≤ k → k < at → is_gap text k ≡ false
@@ -195,7 +197,7 @@ within-item_places line =
 pub IsPlace-item_places : (line : List ℕ) → All (IsPlace (length line)) (item_places line)
 IsPlace-item_places line = IsPlace-before_comment line (item_places line) (within-item_places line)
 
-texts-before_comment : (line : List ℕ) → texts_at (before_comment line) (item_places line) ≡ items line
+pub texts-before_comment : (line : List ℕ) → texts_at (before_comment line) (item_places line) ≡ items line
 unfolding item_places
 texts-before_comment line = texts-places_from (before_comment line) (before_comment line) [] 0 0 (omega arith) refl (IsCut-none (before_comment line))
 
@@ -206,3 +208,10 @@ texts_at-item_places line = sym (texts_at-before_comment line (item_places line)
 pub item_places-of : (line text : List ℕ) (places : List Span) → text ≡ before_comment line → places ≡ places_from 0 0 text → places ≡ item_places line
 unfolding item_places
 item_places-of line text places is found = found ∙ ap (places_from 0 0) is
+
+-- the texts that were found before the comment are the items
+pub texts-of : (line text : List ℕ) (texts : List (List ℕ)) → text ≡ before_comment line
+    → texts ≡ texts_at text (places_from 0 0 text) → texts ≡ items line
+unfolding item_places
+texts-of line text texts is found =
+    found ∙ ap (λ t. texts_at t (places_from 0 0 t)) is ∙ texts-before_comment line

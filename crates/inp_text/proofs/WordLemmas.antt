@@ -15,7 +15,8 @@ use Rattle.inp_text.specs.declared.line.Span.{Span}
 abbrev pub is_solid : ℕ → Bool
 is_solid byte = not (is_blank byte)
 
--- the words of a text up to an index: those at the places are found, and a run from `start` on is going on
+-- the words of a text up to an index: those at the places are found, and a run from `start` on is
+-- going on
 pub record IsCut (text : List ℕ) (places : List Span) (start index : ℕ) : Type 0 where
   pub found : texts_at text places ++ words (drop start text) ≡ words text
   pub solid : list_all is_solid (slice_range text start index) ≡ true

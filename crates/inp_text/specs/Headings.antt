@@ -1,33 +1,42 @@
 -- The headings of an input file.
-use Rattle.std.specs.Prelude.{ℕ, Bool, true, false, ◌==◌, List, [], ◌∷◌, Option, None, Some, if◌then◌else◌, take, codes}
+use Rattle.std.specs.Prelude.{ℕ, Bool, true, false, ◌==◌, List, [], ◌∷◌, Option, None, Some}
+use Rattle.std.specs.Prelude.{if◌then◌else◌, take, codes}
 use Rattle.std.specs.Str.{str_eq_ignore_ascii_case}
+use Rattle.inp_text.specs.Bytes.{left_bracket}
 use Rattle.inp_text.specs.Items.{items}
 use Rattle.inp_text.specs.declared.section_kind.SectionKind.{SectionKind}
-use Rattle.inp_text.specs.declared.section_kind.SectionKind.TheVariants.{Options, Gages, Junctions, Outfalls, Dividers, Storage, Conduits, Pumps, Orifices, Weirs, Outlets, Controls, Curves, Series}
+use Rattle.inp_text.specs.declared.section_kind.SectionKind.TheVariants.{Options, Gages}
+use Rattle.inp_text.specs.declared.section_kind.SectionKind.TheVariants.{Junctions, Outfalls}
+use Rattle.inp_text.specs.declared.section_kind.SectionKind.TheVariants.{Dividers, Storage}
+use Rattle.inp_text.specs.declared.section_kind.SectionKind.TheVariants.{Conduits, Pumps, Orifices}
+use Rattle.inp_text.specs.declared.section_kind.SectionKind.TheVariants.{Weirs, Outlets}
+use Rattle.inp_text.specs.declared.section_kind.SectionKind.TheVariants.{Controls, Curves, Series}
 
--- the first of some items, and no bytes where there is none (own)
+-- the first of some items, and no bytes where there is none
 abbrev pub first_of : List (List ℕ) → List ℕ
 first_of [] = []
 first_of (item ∷ later) = item
 
--- the first item of a line, and no bytes where it has none (own)
+-- the first item of a line, and no bytes where it has none
 abbrev pub first_item : List ℕ → List ℕ
 first_item line = first_of (items line)
 
--- an item begins with a bracket (own)
+-- an item begins with a bracket
 abbrev pub opens_bracket : List ℕ → Bool
 opens_bracket [] = false
-opens_bracket (byte ∷ rest) = byte == 91
+opens_bracket (byte ∷ rest) = byte == left_bracket
 
--- a line is a heading: its first item begins with a bracket (SWMM 5.2 manual, appendix D: a section begins with a keyword in brackets)
+-- a line is a heading: its first item begins with a bracket (SWMM 5.2 manual, appendix D: a section
+-- begins with a keyword in brackets)
 abbrev pub is_heading : List ℕ → Bool
 is_heading line = opens_bracket (first_item line)
 
--- an item begins with these five bytes, ignoring case (own)
+-- an item begins with these five bytes, ignoring case
 unfoldable pub heads : List ℕ → List ℕ → Bool
 heads item heading = str_eq_ignore_ascii_case (take 5 item) heading
 
--- the read section that an item opens, by its bracket and four letters, ignoring case (sections: SWMM 5.2 manual, appendix D; four letters: own)
+-- the read section that an item opens, by its bracket and its first four letters, ignoring case
+-- (the sections: SWMM 5.2 manual, appendix D)
 unfoldable pub section_named : List ℕ → Option SectionKind
 section_named item =
     if heads item (codes "[OPTI") then Some Options
@@ -46,7 +55,7 @@ section_named item =
     else (if heads item (codes "[TIME") then Some Series
     else None)))))))))))))
 
--- the two words name one section (own)
+-- the two words name one section
 abbrev pub is_kind : SectionKind → SectionKind → Bool
 is_kind Options Options = true
 is_kind Gages Gages = true
@@ -64,7 +73,7 @@ is_kind Curves Curves = true
 is_kind Series Series = true
 is_kind _ _ = false
 
--- a section in force is this one (own)
+-- a section in force is this one
 abbrev pub is_in : SectionKind → Option SectionKind → Bool
 is_in kind None = false
 is_in kind (Some section) = is_kind kind section

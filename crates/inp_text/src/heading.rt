@@ -1,19 +1,33 @@
 //! Headings.
-ghost use Rattle.std.specs.Prelude.{◌≡◌, ◌++◌, take, drop, codes, length};
-ghost use Rattle.inp_text.specs.Headings.{first_item as item_of, opens_bracket, heads as heads_of, section_named as named_of};
-ghost use Rattle.inp_text.specs.FirstItems.{take_solid, drop_blanks};
+ghost use Rattle.std.specs.Prelude.{◌≡◌, ◌++◌, take, drop, codes, length, option_map, slice_get};
+ghost use Rattle.inp_text.specs.Items.{items};
+ghost use Rattle.inp_text.specs.Headings.{first_item as item_of, opens_bracket, heads as heads_of};
+ghost use Rattle.inp_text.specs.Headings.{section_named as named_of};
+ghost use Rattle.inp_text.specs.internal.FirstItems.{take_solid, drop_blanks};
 
 use crate::line::{is_blank_byte, without_comment};
 use crate::section_kind::SectionKind;
 
+/// The first item of a line, as `items` has it; None exactly where the line has no items. It takes
+/// no memory, and time in proportion to the line.
+pub fn first_item(line: &[u8]) -> Option<&[u8]>
+    ensures value { option_map (λ item. item.now) result ≡ slice_get (items line.now) 0 }
+{
+    let item = front_item(line);
+    if item.is_empty() {
+        return None;
+    }
+    Some(item)
+}
+
 /// The first item of a line, or no bytes.
-pub(crate) fn first_item(line: &[u8]) -> &[u8]
+pub(crate) fn front_item(line: &[u8]) -> &[u8]
     ensures { result.now ≡ item_of line.now }
 {
     without_rest(without_blanks(without_comment(line)))
 }
 
-/// What follows the blanks at the front.
+/// The text from its first byte that is no blank.
 fn without_blanks(text: &[u8]) -> &[u8]
     ensures { result.now ≡ drop_blanks text.now }
 {
@@ -25,7 +39,7 @@ fn without_blanks(text: &[u8]) -> &[u8]
     &[]
 }
 
-/// What stands before the first blank.
+/// The text before its first blank.
 fn without_rest(text: &[u8]) -> &[u8]
     ensures { result.now ≡ take_solid text.now }
 {

@@ -1,7 +1,7 @@
 //! The lines that are kept of each section.
 ghost use Rattle.std.specs.Prelude.{◌≡◌, [], ◌++◌, ◌∷◌, OnOk, OnErr};
-ghost use Rattle.inp_text.specs.Stands.{kept};
-ghost use Rattle.inp_text.specs.Gains.{Gains, Stays};
+ghost use Rattle.inp_text.specs.internal.Represents.{kept};
+ghost use Rattle.inp_text.specs.internal.AddsLine.{AddsLine, Unchanged};
 ghost use Rattle.inp_text.specs.declared.section_kind.SectionKind.{SectionKind as Kind};
 
 use crate::section_kind::SectionKind;
@@ -80,8 +80,8 @@ impl KeptLines {
 
     /// Keeps one more line of a section.
     pub(crate) fn push(&mut self, kind: SectionKind, line: SourceLine) -> Result<(), NoMemory>
-        ensures gained { OnOk result (Gains self.old self.new kind line) }
-        ensures stays { OnErr result (Stays self.old self.new) }
+        ensures added { OnOk result (AddsLine self.old self.new kind line) }
+        ensures unchanged { OnErr result (Unchanged self.old self.new) }
     {
         match kind {
             SectionKind::Options => push_line(&mut self.options, line),
@@ -104,8 +104,8 @@ impl KeptLines {
 
 /// Adds a line to some lines.
 fn push_line(lines: &mut Vec<SourceLine>, line: SourceLine) -> Result<(), NoMemory>
-    ensures gained { OnOk result (lines.new.items ≡ lines.old.items ++ line ∷ []) }
-    ensures stays { OnErr result (lines.new.items ≡ lines.old.items) }
+    ensures added { OnOk result (lines.new.items ≡ lines.old.items ++ line ∷ []) }
+    ensures unchanged { OnErr result (lines.new.items ≡ lines.old.items) }
 {
     match lines.push(line) {
         Ok(()) => Ok(()),

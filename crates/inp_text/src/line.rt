@@ -1,11 +1,12 @@
 //! The items of a line.
 ghost use Rattle.std.specs.Prelude.{◌≡◌, ◌++◌, length, IfOk, OnOk, All};
-ghost use Rattle.inp_text.specs.Items.{is_blank, before_comment, items as items_of, texts_at, place_between, places_from, item_places, IsPlace};
+ghost use Rattle.inp_text.specs.Items.{is_blank, before_comment, items as items_of, texts_at};
+ghost use Rattle.inp_text.specs.Items.{place_between, places_from, item_places, IsPlace};
 
 use byte_edge::NoMemory;
 use std::alloc::Global;
 
-/// A place in a line: the bytes from `start` to before `end`, counted from 0 (own).
+/// A place in a line: the bytes from `start` to before `end`, counted from 0.
 #[derive(Clone, Copy, Debug, PartialEq, Eq)]
 pub struct Span {
     /// The first byte.
@@ -14,8 +15,8 @@ pub struct Span {
     pub end: usize,
 }
 
-/// The places of the items of a line, in their order: the longest runs of bytes other than spaces and tabs, before the
-/// first semicolon (own). It takes time in proportion to the line.
+/// The places of the items of a line, in their order: the longest runs of bytes other than spaces
+/// and tabs, before the first semicolon. It takes time in proportion to the line.
 pub fn items(alloc: Global, line: &[u8]) -> Result<Vec<Span>, NoMemory>
     ensures value { IfOk result (λ places. places.items ≡ item_places line.now) }
     ensures texts { IfOk result (λ places. texts_at line.now places.items ≡ items_of line.now) }
@@ -25,7 +26,7 @@ pub fn items(alloc: Global, line: &[u8]) -> Result<Vec<Span>, NoMemory>
     Ok(places)
 }
 
-/// What stands before the comment of a line.
+/// The bytes before the comment of a line.
 pub(crate) fn without_comment(line: &[u8]) -> &[u8]
     ensures { result.now ≡ before_comment line.now }
 {
@@ -53,7 +54,7 @@ fn words_in(alloc: Global, text: &[u8]) -> Result<Vec<Span>, NoMemory>
     Ok(places)
 }
 
-/// Whether a byte stands between items: a space or a tab.
+/// Whether a byte separates items: a space or a tab.
 pub(crate) fn is_blank_byte(byte: u8) -> bool
     ensures { result ≡ is_blank byte }
 {
@@ -62,7 +63,8 @@ pub(crate) fn is_blank_byte(byte: u8) -> bool
 
 /// Notes the place from `start` to `end`, where it holds a byte or more.
 fn note_place(places: &mut Vec<Span>, start: usize, end: usize) -> Result<(), NoMemory>
-    ensures { OnOk result (places.new.items ≡ places.old.items ++ place_between start end) }
+    ensures { OnOk result
+        (places.new.items ≡ places.old.items ++ place_between start end) }
 {
     if start < end {
         match places.push(Span { start, end }) {

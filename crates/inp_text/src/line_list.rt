@@ -1,13 +1,14 @@
 //! A plain list of lines.
-ghost use Rattle.std.specs.Prelude.{◌≡◌, [], ◌∷◌, ◌++◌, List, Option, option_map, slice_get, IfOk, OnOk, OnErr};
-ghost use Rattle.inp_text.specs.LineList.{line_told};
+ghost use Rattle.std.specs.Prelude.{◌≡◌, [], ◌∷◌, ◌++◌, List, Option, option_map, slice_get};
+ghost use Rattle.std.specs.Prelude.{IfOk, OnOk, OnErr};
+ghost use Rattle.inp_text.specs.LineList.{line_of};
 
 use byte_edge::NoMemory;
 use list_types::Bytes;
 use std::alloc::Global;
 use std::marker::Model;
 
-/// A line of a list (own).
+/// A line of a list.
 #[derive(Clone, Copy, Debug)]
 pub enum LineText<'a> {
     /// Its bytes, without its end.
@@ -16,7 +17,8 @@ pub enum LineText<'a> {
     Long,
 }
 
-/// The lines of a file, in their order: contracts see a list of texts, with nothing for a line that was too long (own).
+/// The lines of a file, in their order: contracts see a list of texts, with nothing for a line that
+/// was too long.
 #[derive(Debug, Drop)]
 pub struct Lines {
     lines: Vec<Option<Bytes>>,
@@ -31,7 +33,8 @@ impl Model for Lines {
 }
 
 impl Lines {
-    /// No lines, which take no memory; the lines that are taken later are held in memory from `alloc`.
+    /// No lines, which take no memory; the lines that are taken later are held in memory from
+    /// `alloc`.
     pub fn new(alloc: Global) -> Lines
         ensures value { result ≡ [] }
     {
@@ -42,7 +45,8 @@ impl Lines {
 
     /// Takes the next line, None for one that was too long. After NoMemory the lines are as before.
     pub fn push(&mut self, line: Option<&[u8]>) -> Result<(), NoMemory>
-        ensures taken { OnOk result (self.new ≡ self.old ++ option_map (λ bytes. bytes.now) line.entry ∷ []) }
+        ensures taken { OnOk result
+            (self.new ≡ self.old ++ option_map (λ bytes. bytes.now) line.entry ∷ []) }
         ensures unchanged { OnErr result (self.new ≡ self.old) }
     {
         match line {
@@ -58,7 +62,7 @@ impl Lines {
 
     /// The line at `at`, from 0, or None exactly where there are not so many.
     pub fn get(&self, at: usize) -> Option<LineText<'_>>
-        ensures value { option_map line_told result ≡ slice_get self.now at }
+        ensures value { option_map line_of result ≡ slice_get self.now at }
     {
         match self.lines.get(at) {
             Some(Some(bytes)) => Some(LineText::Text(bytes.as_slice())),
@@ -70,8 +74,8 @@ impl Lines {
 
 /// Adds a line to some lines.
 fn push_line(lines: &mut Vec<Option<Bytes>>, line: Option<Bytes>) -> Result<(), NoMemory>
-    ensures gained { OnOk result (lines.new.items ≡ lines.old.items ++ line ∷ []) }
-    ensures stays { OnErr result (lines.new.items ≡ lines.old.items) }
+    ensures added { OnOk result (lines.new.items ≡ lines.old.items ++ line ∷ []) }
+    ensures unchanged { OnErr result (lines.new.items ≡ lines.old.items) }
 {
     match lines.push(line) {
         Ok(()) => Ok(()),

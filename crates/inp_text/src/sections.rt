@@ -1,10 +1,11 @@
 //! The sections of an input file.
-ghost use Rattle.std.specs.Prelude.{◌≡◌, [], ◌∷◌, ◌<◌, ◌+◌, ◌^◌, List, None, Some, option_map, OnOk, OnErr, is_ok, if◌then◌else◌};
+ghost use Rattle.std.specs.Prelude.{◌≡◌, [], ◌∷◌, ◌<◌, ◌+◌, ◌^◌, List, None, Some, option_map};
+ghost use Rattle.std.specs.Prelude.{OnOk, OnErr, is_ok, if◌then◌else◌};
 ghost use Rattle.inp_text.specs.Sections.{Line, section_lines, first_long as first_of};
-ghost use Rattle.inp_text.specs.Gains.{Gains, Stays};
-ghost use Rattle.inp_text.specs.Stands.{kept as kept_of, StandsFor};
+ghost use Rattle.inp_text.specs.internal.AddsLine.{AddsLine, Unchanged};
+ghost use Rattle.inp_text.specs.internal.Represents.{kept as kept_of, Represents};
 
-use crate::heading::{first_item, is_bracketed, section_named};
+use crate::heading::{front_item, is_bracketed, section_named};
 use crate::kept_lines::KeptLines;
 use crate::section_kind::SectionKind;
 use crate::source_line::SourceLine;
@@ -12,9 +13,9 @@ use byte_edge::NoMemory;
 use list_types::Bytes;
 use std::alloc::Global;
 
-/// The lines of the sections of an input file that are read, taken line by line. A section opens with a heading, which is
-/// matched by its bracket and four letters, ignoring case; sections come in any order and may come again (SWMM 5.2
-/// manual, appendix D; the four letters: own).
+/// The lines of the sections of an input file that are read, taken line by line. A section opens
+/// with a heading, which is matched by its bracket and first four letters, ignoring case; sections
+/// come in any order and may come again (SWMM 5.2 manual, appendix D).
 #[derive(Debug, Drop)]
 pub struct Sections {
     count: u64,
@@ -24,9 +25,10 @@ pub struct Sections {
 }
 
 impl Sections {
-    /// The sections of no lines, which take no memory; the lines that are kept later are held in memory from `alloc`.
+    /// The sections of no lines, which take no memory; the lines that are kept later are held in
+    /// memory from `alloc`.
     pub fn new(alloc: Global) -> Sections
-        ensures stands { StandsFor result [] }
+        ensures none { Represents result [] }
         ensures count { result.count ≡ 0 }
     {
         Sections {
@@ -37,14 +39,18 @@ impl Sections {
         }
     }
 
-    /// Takes the next line, None for one that was too long. A line that was too long is no heading and has no items.
-    /// Headings, lines without items and lines of sections that are not read are not kept. After NoMemory the sections
-    /// stand for the lines before (own). It takes time in proportion to the line.
+    /// Takes the next line, None for one that was too long. A line that was too long is no heading
+    /// and has no items. Headings, lines without items and lines of sections that are not read are
+    /// not kept. After NoMemory the sections represent the lines before. It takes time in
+    /// proportion to the line.
     pub fn push(&mut self, line: Option<&[u8]>) -> Result<(), NoMemory>
         requires few { self.old.count < 2 ^ 32 }
-        ensures taken { OnOk result ((earlier : List Line) → StandsFor self.old earlier → StandsFor self.new (option_map (λ bytes. bytes.now) line.entry ∷ earlier)) }
-        ensures unchanged { OnErr result ((earlier : List Line) → StandsFor self.old earlier → StandsFor self.new earlier) }
-        ensures count { self.new.count ≡ (if is_ok result then self.old.count + 1 else self.old.count) }
+        ensures taken { OnOk result ((earlier : List Line) → Represents self.old earlier
+            → Represents self.new (option_map (λ bytes. bytes.now) line.entry ∷ earlier)) }
+        ensures unchanged { OnErr result ((earlier : List Line) → Represents self.old earlier
+            → Represents self.new earlier) }
+        ensures count { self.new.count
+            ≡ (if is_ok result then self.old.count + 1 else self.old.count) }
     {
         match line {
             Some(bytes) => self.push_text(bytes),
@@ -55,18 +61,21 @@ impl Sections {
         }
     }
 
-    /// The lines of a section that have items and are no headings, in the order of the file, with their numbers from 1 (own).
+    /// The lines of a section that have items and are no headings, in the order of the file, with
+    /// their numbers from 1. It takes no memory and the same time however many there are.
     pub fn lines(&self, kind: SectionKind) -> &[SourceLine]
         ensures value { result.now ≡ kept_of self.now.kept kind }
-        ensures lines { (earlier : List Line) → StandsFor self.now earlier → result.now ≡ section_lines kind earlier }
+        ensures lines { (earlier : List Line) → Represents self.now earlier
+            → result.now ≡ section_lines kind earlier }
     {
         self.kept.of(kind)
     }
 
-    /// The number, from 1, of the first line that was too long (own).
+    /// The number, from 1, of the first line that was too long.
     pub fn first_long(&self) -> Option<u64>
         ensures value { result ≡ self.now.first_long }
-        ensures first { (earlier : List Line) → StandsFor self.now earlier → result ≡ first_of earlier }
+        ensures first { (earlier : List Line) → Represents self.now earlier
+            → result ≡ first_of earlier }
     {
         self.first_long
     }
@@ -74,11 +83,14 @@ impl Sections {
     /// Takes a line of bytes.
     fn push_text(&mut self, line: &[u8]) -> Result<(), NoMemory>
         requires few { self.old.count < 2 ^ 32 }
-        ensures taken { OnOk result ((earlier : List Line) → StandsFor self.old earlier → StandsFor self.new (Some line.now ∷ earlier)) }
-        ensures unchanged { OnErr result ((earlier : List Line) → StandsFor self.old earlier → StandsFor self.new earlier) }
-        ensures count { self.new.count ≡ (if is_ok result then self.old.count + 1 else self.old.count) }
+        ensures taken { OnOk result ((earlier : List Line) → Represents self.old earlier
+            → Represents self.new (Some line.now ∷ earlier)) }
+        ensures unchanged { OnErr result ((earlier : List Line) → Represents self.old earlier
+            → Represents self.new earlier) }
+        ensures count { self.new.count
+            ≡ (if is_ok result then self.old.count + 1 else self.old.count) }
     {
-        let item = first_item(line);
+        let item = front_item(line);
         if is_bracketed(item) {
             self.section = section_named(item);
             self.count += 1;
@@ -100,9 +112,11 @@ impl Sections {
     /// Takes a line that its section keeps.
     fn keep(&mut self, kind: SectionKind, line: &[u8]) -> Result<(), NoMemory>
         requires few { self.old.count < 2 ^ 32 }
-        ensures gained { OnOk result (Gains self.old.kept self.new.kept kind (record { number = self.old.count + 1; bytes = line.now })) }
-        ensures stays { OnErr result (Stays self.old.kept self.new.kept) }
-        ensures count { self.new.count ≡ (if is_ok result then self.old.count + 1 else self.old.count) }
+        ensures added { OnOk result (AddsLine self.old.kept self.new.kept kind
+            (record { number = self.old.count + 1; bytes = line.now })) }
+        ensures unchanged { OnErr result (Unchanged self.old.kept self.new.kept) }
+        ensures count { self.new.count
+            ≡ (if is_ok result then self.old.count + 1 else self.old.count) }
         ensures section { self.new.section ≡ self.old.section }
         ensures first_long { self.new.first_long ≡ self.old.first_long }
     {
@@ -126,7 +140,8 @@ impl Sections {
     /// Takes a line that was too long.
     fn push_long(&mut self)
         requires few { self.old.count < 2 ^ 32 }
-        ensures taken { (earlier : List Line) → StandsFor self.old earlier → StandsFor self.new (None ∷ earlier) }
+        ensures taken { (earlier : List Line) → Represents self.old earlier
+            → Represents self.new (None ∷ earlier) }
         ensures count { self.new.count ≡ self.old.count + 1 }
     {
         self.count += 1;

@@ -1,5 +1,8 @@
 //! Lines, cut and kept.
-use crate::{LineText, Lines, SectionKind, Sections, Span, TextFault, items, tokens};
+use crate::{
+    LineText, Lines, SectionKind, Sections, Span, TextFault, cut_line, first_control, first_item,
+    items, tokens,
+};
 use std::test::Fail;
 
 #[test]
@@ -25,9 +28,32 @@ fn cuts_a_line_without_control_bytes(rt: HostRuntime) -> Result<(), Fail> {
 }
 
 #[test]
-fn tells_a_control_byte(rt: HostRuntime) -> Result<(), Fail> {
-    let told = tokens(rt.alloc(), b"P1\x01 N1");
-    assert!(rt; matches!(told, Err(TextFault::BadText(2))));
+fn cuts_a_line_into_texts(rt: HostRuntime) -> Result<(), Fail> {
+    let texts = cut_line(rt.alloc(), b"\tTHEN  PUMP N1A;off")?;
+    assert_eq!(rt; texts.len(), 3);
+    assert_eq!(rt; texts[0], b"THEN".as_slice());
+    assert_eq!(rt; texts[2], b"N1A".as_slice());
+    Ok(())
+}
+
+#[test]
+fn gives_the_first_item(rt: HostRuntime) -> Result<(), Fail> {
+    assert_eq!(rt; first_item(b"  P1 N1"), Some(b"P1".as_slice()));
+    assert_eq!(rt; first_item(b" ;P1"), None);
+    Ok(())
+}
+
+#[test]
+fn finds_a_control_byte(rt: HostRuntime) -> Result<(), Fail> {
+    assert_eq!(rt; first_control(b"P1\t\x7f"), Some(3));
+    assert_eq!(rt; first_control(b"P1 ;\x01"), None);
+    Ok(())
+}
+
+#[test]
+fn refuses_a_control_byte(rt: HostRuntime) -> Result<(), Fail> {
+    let refused = tokens(rt.alloc(), b"P1\x01 N1");
+    assert!(rt; matches!(refused, Err(TextFault::BadText(2))));
     Ok(())
 }
 

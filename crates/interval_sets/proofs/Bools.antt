@@ -1,6 +1,6 @@
 -- Tests that differ.
 use Rattle.std.proofs.Common.{◌≡◌, Bool, true, false, refl, sym}
-use Rattle.interval_sets.specs.Edges.{differs}
+use Rattle.interval_sets.specs.internal.Edges.{differs}
 
 pub differs_false : (a : Bool) → differs a false ≡ a
 differs_false true = refl

@@ -4,7 +4,7 @@ use Rattle.std.specs.Prelude.{IsTrue}
 use Rattle.std.proofs.lemmas.Bool.{and_parts, and_from, false_from_ne_true, not_from_false, true≢false, not-true}
 use Rattle.exact_fraction.specs.Number.{Rational}
 use Rattle.exact_fraction.specs.Order.{◌≤ℚ◌}
-use Rattle.exact_fraction.proofs.Cited.{order-transitive, order-below_at_most, order-at_most_below, tests-less}
+use Rattle.exact_fraction.proofs.PublicLaws.{order-transitive, order-below_at_most, order-at_most_below, tests-less}
 use Rattle.interval_sets.specs.declared.interval.Bound.{Bound}
 use Rattle.interval_sets.specs.declared.interval.Bound.TheVariants as end
 use Rattle.interval_sets.specs.declared.interval.Interval.{Interval}

@@ -1,10 +1,10 @@
 -- Cuts that rise from one to the next rise throughout.
-use Rattle.std.proofs.Common.{◌≡◌, ℕ, zero, suc, ◌+◌, ◌-◌, ◌<◌, Some, List, [], ◌∷◌, length, get_or, refl, sym, subst, arith}
+use Rattle.std.proofs.Common.{◌≡◌, ◌↔◌, ℕ, zero, suc, ◌+◌, ◌-◌, ◌<◌, Some, List, [], ◌∷◌, length, get_or, refl, sym, subst, arith}
 use Rattle.std.specs.Prelude.{slice_get}
 use Rattle.std.proofs.lemmas.Option.{slice_get_within, slice_get-get_or}
 use Rattle.exact_fraction.specs.Number.{Rational}
 use Rattle.exact_fraction.specs.Order.{◌<ℚ◌}
-use Rattle.exact_fraction.proofs.Cited.{order-below_transitive}
+use Rattle.exact_fraction.proofs.PublicLaws.{order-below_transitive}
 use Rattle.interval_sets.specs.Cuts.{IsRising}
 
 rising_by : (cuts : List Rational) (d : Rational) → IsRising cuts → (n i j : ℕ) → j ≡ i + 1 + n → j < length cuts → get_or cuts i d <ℚ get_or cuts j d
@@ -39,3 +39,24 @@ rising_two cuts p q so h =
     rising : (k : ℕ) (d : Rational) → k + 1 < 2 → get_or (p ∷ q ∷ []) k d <ℚ get_or (p ∷ q ∷ []) (k + 1) d
     rising zero d within = h
     rising (suc k) d within = absurd (omega arith)
+
+-- cuts rise where the first is below the second and the second and all later ones rise
+pub rising_next : (p q : Rational) (cuts : List Rational) → IsRising (p ∷ q ∷ cuts) ↔ ((p <ℚ q) × IsRising (q ∷ cuts))
+rising_next p q cuts = (λ rises. (rises zero p (omega arith), later rises), λ (first, rest). all first rest)
+  where
+    later : IsRising (p ∷ q ∷ cuts) → IsRising (q ∷ cuts)
+    later rises k d within =
+        let P : ℕ → Type 0 = λ n. get_or (q ∷ cuts) k d <ℚ get_or (p ∷ q ∷ cuts) n d in
+        let at : suc k + 1 ≡ suc (k + 1) = omega arith in
+        subst P at (rises (suc k) d (omega arith))
+
+    all : p <ℚ q → IsRising (q ∷ cuts) → IsRising (p ∷ q ∷ cuts)
+    all first rest zero d within = first
+    all first rest (suc k) d within =
+        let P : ℕ → Type 0 = λ n. get_or (q ∷ cuts) k d <ℚ get_or (p ∷ q ∷ cuts) n d in
+        let at : suc (k + 1) ≡ suc k + 1 = omega arith in
+        subst P at (rest k d (omega arith))
+
+-- one cut rises
+pub rising_one : (p : Rational) → IsRising (p ∷ [])
+rising_one p k d within = absurd (omega arith)

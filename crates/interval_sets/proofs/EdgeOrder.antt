@@ -5,10 +5,10 @@ use Rattle.exact_fraction.specs.Number.{Rational, IsNumber, den, whole}
 use Rattle.exact_fraction.specs.Number.{zero as nought}
 use Rattle.exact_fraction.specs.Order.{◌≤ℚ◌, ◌<ℚ◌, less}
 use Rattle.exact_fraction.specs.Operations.{sum_of, middle_of}
-use Rattle.exact_fraction.proofs.Cited.{order-reflexive, order-transitive, order-below_at_most, order-at_most_below, order-below_transitive, order-below_is_at_most, order-antisymmetric, order-same_is_at_most, order-dense, tests-less, tests-not_less, sums-below, sums-commutes, sums-with_zero, lowest_terms-unique}
+use Rattle.exact_fraction.proofs.PublicLaws.{order-reflexive, order-transitive, order-below_at_most, order-at_most_below, order-below_transitive, order-below_is_at_most, order-antisymmetric, order-same_is_at_most, order-dense, tests-less, tests-not_less, sums-below, sums-commutes, sums-with_zero, lowest_terms-unique}
 use Rattle.interval_sets.specs.declared.edge.Edge.{Edge}
 use Rattle.interval_sets.specs.declared.edge.Edge.TheVariants.{BelowAll, Before, After, AboveAll}
-use Rattle.interval_sets.specs.Edges.{is_past, stands_before, IsHeldEdge}
+use Rattle.interval_sets.specs.internal.Edges.{is_past, stands_before, IsHeldEdge}
 
 -- ---- the tests of two numbers
 pub at_most_true : (p q : Rational) → not (less q p) ≡ true → p ≤ℚ q

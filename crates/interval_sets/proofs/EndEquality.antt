@@ -4,7 +4,7 @@ use Rattle.std.specs.Bool.{Decides}
 use Rattle.std.specs.Cmp.{booleans_Decides}
 use Rattle.std.proofs.Common.{ap, rules}
 use Rattle.std.proofs.lemmas.Bool.Decides.{Decides-like, Decides-and}
-use Rattle.exact_fraction.proofs.Cited.{equality-fraction}
+use Rattle.exact_fraction.proofs.PublicLaws.{equality-fraction}
 use Rattle.interval_sets.specs.declared.interval.Bound.{Bound}
 use Rattle.interval_sets.specs.contracts.interval.BoundPartialEq.TheImpl as BoundEq
 use Rattle.interval_sets.specs.declared.interval.Bound.TheVariants as bound

@@ -7,8 +7,8 @@ use Rattle.interval_sets.specs.declared.edge.Edge.{Edge}
 use Rattle.interval_sets.specs.declared.merge.Step.{Step}
 use Rattle.interval_sets.specs.declared.combination.Combination.{Combination}
 use Rattle.interval_sets.specs.declared.combination.Combination.TheVariants.{Union, Meet, Difference}
-use Rattle.interval_sets.specs.Edges.{stands_before, Leads, Rises, IsHeldEdge, AreHeldEdges, differs, oddly_many, IsDownward, combined, taken, rest_after, IsCombination}
-use Rattle.interval_sets.specs.MergeSteps.{sooner_of, next_step_of}
+use Rattle.interval_sets.specs.internal.Edges.{stands_before, Leads, Rises, IsHeldEdge, AreHeldEdges, differs, oddly_many, IsDownward, in_combination, with_edge, rest_after, IsCombination}
+use Rattle.interval_sets.specs.internal.MergeSteps.{sooner_of, next_step_of}
 use Rattle.interval_sets.proofs.Bools.{differs_false, differs_moved, differs_through}
 use Rattle.interval_sets.proofs.EdgeOrder.{before_trans, same_edge}
 
@@ -21,57 +21,57 @@ none_after test down e (f ∷ edges) leads rises fails = by_test (test f) refl (
     by_test true p later = absurd (false≢true (sym fails ∙ down e f leads p))
     by_test false p later = later p
 
-odd_taken_past : (test : Edge → Bool) (t : Bool) (e : Edge) (edges : List Edge) → test e ≡ true → oddly_many test (taken t e edges) ≡ differs t (oddly_many test edges)
+odd_taken_past : (test : Edge → Bool) (t : Bool) (e : Edge) (edges : List Edge) → test e ≡ true → oddly_many test (with_edge t e edges) ≡ differs t (oddly_many test edges)
 odd_taken_past test true e edges p = ap (λ x. differs x (oddly_many test edges)) p
 odd_taken_past test false e edges p = refl
 
-odd_taken_short : (test : Edge → Bool) (t : Bool) (e : Edge) (edges : List Edge) → test e ≡ false → oddly_many test (taken t e edges) ≡ oddly_many test edges
+odd_taken_short : (test : Edge → Bool) (t : Bool) (e : Edge) (edges : List Edge) → test e ≡ false → oddly_many test (with_edge t e edges) ≡ oddly_many test edges
 odd_taken_short test true e edges p = ap (λ x. differs x (oddly_many test edges)) p
 odd_taken_short test false e edges p = refl
 
 -- the edges `rest` are those of the combination from a place on, where the two sets hold or not there and have the edges
 -- `left` and `right` from there on
 pub record Comes (how : Combination) (in_left : Bool) (left : List Edge) (in_right : Bool) (right rest : List Edge) : Type 0 where
-  pub changes : (test : Edge → Bool) → IsDownward test → differs (combined how in_left in_right) (oddly_many test rest) ≡ combined how (differs in_left (oddly_many test left)) (differs in_right (oddly_many test right))
+  pub changes : (test : Edge → Bool) → IsDownward test → differs (in_combination how in_left in_right) (oddly_many test rest) ≡ in_combination how (differs in_left (oddly_many test left)) (differs in_right (oddly_many test right))
   pub rising : Rises rest
   pub leads : (d : Edge) → Leads d left → Leads d right → Leads d rest
   pub held : AreHeldEdges left → AreHeldEdges right → AreHeldEdges rest
 
-leads_through : (d e : Edge) (edges : List Edge) → stands_before d e ≡ true → Leads e edges → Leads d edges
+pub leads_through : (d e : Edge) (edges : List Edge) → stands_before d e ≡ true → Leads e edges → Leads d edges
 leads_through d e [] h leads = tt
 leads_through d e (f ∷ edges) h leads = before_trans d e f h leads
 
-leads_first : (d e : Edge) (s t : Bool) (left right : List Edge) → (s || t) ≡ true → Leads d (taken s e left) → Leads d (taken t e right) → stands_before d e ≡ true
+leads_first : (d e : Edge) (s t : Bool) (left right : List Edge) → (s || t) ≡ true → Leads d (with_edge s e left) → Leads d (with_edge t e right) → stands_before d e ≡ true
 leads_first d e true t left right some l r = l
 leads_first d e false true left right some l r = r
 leads_first d e false false left right some l r = absurd (false≢true some)
 
-leads_taken : (d e : Edge) (t : Bool) (edges : List Edge) → stands_before d e ≡ true → Leads e edges → Leads d (taken t e edges)
+leads_taken : (d e : Edge) (t : Bool) (edges : List Edge) → stands_before d e ≡ true → Leads e edges → Leads d (with_edge t e edges)
 leads_taken d e true edges h leads = h
 leads_taken d e false edges h leads = leads_through d e edges h leads
 
-rises_taken : (e : Edge) (t : Bool) (edges : List Edge) → Leads e edges → Rises edges → Rises (taken t e edges)
+rises_taken : (e : Edge) (t : Bool) (edges : List Edge) → Leads e edges → Rises edges → Rises (with_edge t e edges)
 rises_taken e true edges leads rises = (leads, rises)
 rises_taken e false edges leads rises = rises
 
-held_rest : (e : Edge) (t : Bool) (edges : List Edge) → AreHeldEdges (taken t e edges) → AreHeldEdges edges
+held_rest : (e : Edge) (t : Bool) (edges : List Edge) → AreHeldEdges (with_edge t e edges) → AreHeldEdges edges
 held_rest e true edges held = held.1
 held_rest e false edges held = held
 
-held_first : (e : Edge) (s t : Bool) (left right : List Edge) → (s || t) ≡ true → AreHeldEdges (taken s e left) → AreHeldEdges (taken t e right) → IsHeldEdge e
+held_first : (e : Edge) (s t : Bool) (left right : List Edge) → (s || t) ≡ true → AreHeldEdges (with_edge s e left) → AreHeldEdges (with_edge t e right) → IsHeldEdge e
 held_first e true t left right some l r = l.0
 held_first e false true left right some l r = r.0
 held_first e false false left right some l r = absurd (false≢true some)
 
-held_taken : (e : Edge) (t : Bool) (edges : List Edge) → IsHeldEdge e → AreHeldEdges edges → AreHeldEdges (taken t e edges)
+held_taken : (e : Edge) (t : Bool) (edges : List Edge) → IsHeldEdge e → AreHeldEdges edges → AreHeldEdges (with_edge t e edges)
 held_taken e true edges h held = (h, held)
 held_taken e false edges h held = held
 
 -- one step of the merge, over an edge of the left, of the right or of both
-pub comes_step : (how : Combination) (a b s t : Bool) (e : Edge) (left right rest : List Edge) → (s || t) ≡ true → Leads e left → Leads e right → Rises left → Rises right → Comes how (differs a s) left (differs b t) right rest → Comes how a (taken s e left) b (taken t e right) (taken (differs (combined how a b) (combined how (differs a s) (differs b t))) e rest)
+pub comes_step : (how : Combination) (a b s t : Bool) (e : Edge) (left right rest : List Edge) → (s || t) ≡ true → Leads e left → Leads e right → Rises left → Rises right → Comes how (differs a s) left (differs b t) right rest → Comes how a (with_edge s e left) b (with_edge t e right) (with_edge (differs (in_combination how a b) (in_combination how (differs a s) (differs b t))) e rest)
 comes_step how a b s t e left right rest some el er rl rr next =
-    let here = combined how a b in
-    let there = combined how (differs a s) (differs b t) in
+    let here = in_combination how a b in
+    let there = in_combination how (differs a s) (differs b t) in
     let later = next.leads e el er in
     record {
       changes = λ test down. by_test test down (test e) refl;
@@ -81,26 +81,26 @@ comes_step how a b s t e left right rest some el er rl rr next =
     }
   where
     here : Bool
-    here = combined how a b
+    here = in_combination how a b
 
     there : Bool
-    there = combined how (differs a s) (differs b t)
+    there = in_combination how (differs a s) (differs b t)
 
-    by_test : (test : Edge → Bool) → IsDownward test → (p : Bool) → test e ≡ p → differs (combined how a b) (oddly_many test (taken (differs (combined how a b) (combined how (differs a s) (differs b t))) e rest)) ≡ combined how (differs a (oddly_many test (taken s e left))) (differs b (oddly_many test (taken t e right)))
+    by_test : (test : Edge → Bool) → IsDownward test → (p : Bool) → test e ≡ p → differs (in_combination how a b) (oddly_many test (with_edge (differs (in_combination how a b) (in_combination how (differs a s) (differs b t))) e rest)) ≡ in_combination how (differs a (oddly_many test (with_edge s e left))) (differs b (oddly_many test (with_edge t e right)))
     by_test test down true p =
-        ap (differs (combined how a b)) (odd_taken_past test (differs (combined how a b) (combined how (differs a s) (differs b t))) e rest p)
-        ∙ differs_through (combined how a b) (combined how (differs a s) (differs b t)) (oddly_many test rest)
+        ap (differs (in_combination how a b)) (odd_taken_past test (differs (in_combination how a b) (in_combination how (differs a s) (differs b t))) e rest p)
+        ∙ differs_through (in_combination how a b) (in_combination how (differs a s) (differs b t)) (oddly_many test rest)
         ∙ next.changes test down
-        ∙ sym (ap₂ (combined how) (ap (differs a) (odd_taken_past test s e left p) ∙ differs_moved a s (oddly_many test left)) (ap (differs b) (odd_taken_past test t e right p) ∙ differs_moved b t (oddly_many test right)))
+        ∙ sym (ap₂ (in_combination how) (ap (differs a) (odd_taken_past test s e left p) ∙ differs_moved a s (oddly_many test left)) (ap (differs b) (odd_taken_past test t e right p) ∙ differs_moved b t (oddly_many test right)))
     by_test test down false p =
-        ap (differs (combined how a b)) (odd_taken_short test (differs (combined how a b) (combined how (differs a s) (differs b t))) e rest p ∙ none_after test down e rest (next.leads e el er) next.rising p)
-        ∙ differs_false (combined how a b)
-        ∙ sym (ap₂ (combined how) (ap (differs a) (odd_taken_short test s e left p ∙ none_after test down e left el rl p) ∙ differs_false a) (ap (differs b) (odd_taken_short test t e right p ∙ none_after test down e right er rr p) ∙ differs_false b))
+        ap (differs (in_combination how a b)) (odd_taken_short test (differs (in_combination how a b) (in_combination how (differs a s) (differs b t))) e rest p ∙ none_after test down e rest (next.leads e el er) next.rising p)
+        ∙ differs_false (in_combination how a b)
+        ∙ sym (ap₂ (in_combination how) (ap (differs a) (odd_taken_short test s e left p ∙ none_after test down e left el rl p) ∙ differs_false a) (ap (differs b) (odd_taken_short test t e right p ∙ none_after test down e right er rr p) ∙ differs_false b))
 
 -- nothing comes where neither set has edges left
 pub comes_end : (how : Combination) (a b : Bool) → Comes how a [] b [] []
 comes_end how a b = record {
-  changes = λ test down. differs_false (combined how a b) ∙ sym (ap₂ (combined how) (differs_false a) (differs_false b));
+  changes = λ test down. differs_false (in_combination how a b) ∙ sym (ap₂ (in_combination how) (differs_false a) (differs_false b));
   rising = tt;
   leads = λ d l r. tt;
   held = λ l r. tt;
@@ -114,8 +114,8 @@ comes_whole Difference left right rest l r whole = record { changes = whole.chan
 
 -- ---- what a step takes of the two lists
 pub record IsStep (left right : List Edge) (step : Step) : Type 0 where
-  pub left_is : left ≡ taken step.from_left step.edge (rest_after step.from_left left)
-  pub right_is : right ≡ taken step.from_right step.edge (rest_after step.from_right right)
+  pub left_is : left ≡ with_edge step.from_left step.edge (rest_after step.from_left left)
+  pub right_is : right ≡ with_edge step.from_right step.edge (rest_after step.from_right right)
   pub some : (step.from_left || step.from_right) ≡ true
   pub left_leads : Leads step.edge (rest_after step.from_left left)
   pub right_leads : Leads step.edge (rest_after step.from_right right)
@@ -171,23 +171,23 @@ pub record Merging (how : Combination) (all_left all_right left right : List Edg
   pub right_held : AreHeldEdges right
   pub whole : (rest : List Edge) → Comes how in_left left in_right right rest → Comes how false all_left false all_right (edges ++ rest)
 
-pushed : (m : Bool) (e : Edge) (edges rest : List Edge) → cond m (edges ++ e ∷ []) edges ++ rest ≡ edges ++ taken m e rest
+pushed : (m : Bool) (e : Edge) (edges rest : List Edge) → cond m (edges ++ e ∷ []) edges ++ rest ≡ edges ++ with_edge m e rest
 pushed true e edges rest = append_assoc edges (e ∷ []) rest
 pushed false e edges rest = refl
 
-comes_before : (how : Combination) (a b : Bool) (left right rest : List Edge) (step : Step) → IsStep left right step → Rises (rest_after step.from_left left) → Rises (rest_after step.from_right right) → Comes how (differs a step.from_left) (rest_after step.from_left left) (differs b step.from_right) (rest_after step.from_right right) rest → Comes how a left b right (taken (differs (combined how a b) (combined how (differs a step.from_left) (differs b step.from_right))) step.edge rest)
+comes_before : (how : Combination) (a b : Bool) (left right rest : List Edge) (step : Step) → IsStep left right step → Rises (rest_after step.from_left left) → Rises (rest_after step.from_right right) → Comes how (differs a step.from_left) (rest_after step.from_left left) (differs b step.from_right) (rest_after step.from_right right) rest → Comes how a left b right (with_edge (differs (in_combination how a b) (in_combination how (differs a step.from_left) (differs b step.from_right))) step.edge rest)
 comes_before how a b left right rest step facts rl rr later =
     let l = rest_after step.from_left left in
     let r = rest_after step.from_right right in
-    let m = differs (combined how a b) (combined how (differs a step.from_left) (differs b step.from_right)) in
-    let P : List Edge → Type 0 = λ x. Comes how a x b right (taken m step.edge rest) in
-    let Q : List Edge → Type 0 = λ y. Comes how a (taken step.from_left step.edge l) b y (taken m step.edge rest) in
+    let m = differs (in_combination how a b) (in_combination how (differs a step.from_left) (differs b step.from_right)) in
+    let P : List Edge → Type 0 = λ x. Comes how a x b right (with_edge m step.edge rest) in
+    let Q : List Edge → Type 0 = λ y. Comes how a (with_edge step.from_left step.edge l) b y (with_edge m step.edge rest) in
     subst P (sym facts.left_is) (subst Q (sym facts.right_is) (comes_step how a b step.from_left step.from_right step.edge l r rest facts.some facts.left_leads facts.right_leads rl rr later))
 
-pub merging_step : (how : Combination) (all_left all_right left right : List Edge) (a b : Bool) (edges : List Edge) (step : Step) → Merging how all_left all_right left right a b edges → next_step_of left right ≡ Some step → Merging how all_left all_right (rest_after step.from_left left) (rest_after step.from_right right) (differs a step.from_left) (differs b step.from_right) (cond (differs (combined how a b) (combined how (differs a step.from_left) (differs b step.from_right))) (edges ++ step.edge ∷ []) edges)
+pub merging_step : (how : Combination) (all_left all_right left right : List Edge) (a b : Bool) (edges : List Edge) (step : Step) → Merging how all_left all_right left right a b edges → next_step_of left right ≡ Some step → Merging how all_left all_right (rest_after step.from_left left) (rest_after step.from_right right) (differs a step.from_left) (differs b step.from_right) (cond (differs (in_combination how a b) (in_combination how (differs a step.from_left) (differs b step.from_right))) (edges ++ step.edge ∷ []) edges)
 merging_step how all_left all_right left right a b edges step so is =
     let facts = step_facts left right so.left_rises so.right_rises so.left_held so.right_held step is in
-    let m = differs (combined how a b) (combined how (differs a step.from_left) (differs b step.from_right)) in
+    let m = differs (in_combination how a b) (in_combination how (differs a step.from_left) (differs b step.from_right)) in
     let rl = rises_rest step.from_left left so.left_rises in
     let rr = rises_rest step.from_right right so.right_rises in
     let P : List Edge → Type 0 = λ x. Comes how false all_left false all_right x in
@@ -196,7 +196,7 @@ merging_step how all_left all_right left right a b edges step so is =
       right_rises = rr;
       left_held = held_after step.from_left left so.left_held;
       right_held = held_after step.from_right right so.right_held;
-      whole = λ rest later. subst P (sym (pushed m step.edge edges rest)) (so.whole (taken m step.edge rest) (comes_before how a b left right rest step facts rl rr later));
+      whole = λ rest later. subst P (sym (pushed m step.edge edges rest)) (so.whole (with_edge m step.edge rest) (comes_before how a b left right rest step facts rl rr later));
     }
 
 pub merging_start : (how : Combination) (left right : List Edge) → Rises left → Rises right → AreHeldEdges left → AreHeldEdges right → Merging how left right left right false false []
@@ -212,14 +212,14 @@ merging_end how all_left all_right left right a b edges hl hr so is =
     subst R (append-nil edges) (comes_whole how all_left all_right (edges ++ []) hl hr (so.whole [] nothing))
 
 -- ---- the measure
-length-taken : (t : Bool) (e : Edge) (edges : List Edge) → length (taken t e edges) ≡ cond t 1 0 + length edges
-length-taken true e edges = omega arith
-length-taken false e edges = omega arith
+length-with_edge : (t : Bool) (e : Edge) (edges : List Edge) → length (with_edge t e edges) ≡ cond t 1 0 + length edges
+length-with_edge true e edges = omega arith
+length-with_edge false e edges = omega arith
 
 pub merging_shorter : (left right : List Edge) (step : Step) → IsStep left right step → length (rest_after step.from_left left) + length (rest_after step.from_right right) < length left + length right
 merging_shorter left right step facts =
-    let l : length left ≡ cond step.from_left 1 0 + length (rest_after step.from_left left) = ap length facts.left_is ∙ length-taken step.from_left step.edge (rest_after step.from_left left) in
-    let r : length right ≡ cond step.from_right 1 0 + length (rest_after step.from_right right) = ap length facts.right_is ∙ length-taken step.from_right step.edge (rest_after step.from_right right) in
+    let l : length left ≡ cond step.from_left 1 0 + length (rest_after step.from_left left) = ap length facts.left_is ∙ length-with_edge step.from_left step.edge (rest_after step.from_left left) in
+    let r : length right ≡ cond step.from_right 1 0 + length (rest_after step.from_right right) = ap length facts.right_is ∙ length-with_edge step.from_right step.edge (rest_after step.from_right right) in
     some_taken step.from_left step.from_right (length left) (length right) (length (rest_after step.from_left left)) (length (rest_after step.from_right right)) facts.some l r
   where
     some_taken : (s t : Bool) (m n k j : ℕ) → (s || t) ≡ true → m ≡ cond s 1 0 + k → n ≡ cond t 1 0 + j → k + j < m + n

@@ -6,7 +6,7 @@ use Rattle.exact_fraction.specs.Number.{Rational}
 use Rattle.interval_sets.specs.declared.interval.Bound.{Bound}
 use Rattle.interval_sets.specs.declared.interval.Interval.{Interval}
 use Rattle.interval_sets.specs.Intervals.{is_above, is_below, lies_in, has_member, has_gap}
-use Rattle.interval_sets.specs.Edges.{is_past, low_edge, high_edge}
+use Rattle.interval_sets.specs.internal.Edges.{is_past, low_edge, high_edge}
 use Rattle.interval_sets.proofs.EdgeOrder.{room, before_from_past}
 use Rattle.interval_sets.proofs.PieceEdges.{above_past, below_past, member_before, gap_before}
 

@@ -4,7 +4,7 @@ use Rattle.std.proofs.lemmas.Bool.{true≢false}
 use Rattle.std.proofs.lemmas.List.{append-nil}
 use Rattle.interval_sets.specs.declared.interval.Interval.{Interval}
 use Rattle.interval_sets.specs.declared.edge.Edge.{Edge}
-use Rattle.interval_sets.specs.Edges.{low_end, high_end, edges_of, Rises, oddly_many}
+use Rattle.interval_sets.specs.internal.Edges.{low_end, high_end, edges_of, Rises, oddly_many}
 use Rattle.interval_sets.proofs.PieceEdges.{edges_of-push, low_back, high_back}
 
 -- the pieces so far have the edges before the rest, of which there is an even number

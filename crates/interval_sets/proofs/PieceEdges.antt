@@ -14,7 +14,7 @@ use Rattle.interval_sets.specs.declared.combination.Combination.{Combination}
 use Rattle.interval_sets.specs.declared.combination.Combination.TheVariants.{Union, Meet, Difference}
 use Rattle.interval_sets.specs.Intervals.{is_above, is_below, has_member, has_gap, IsHeld}
 use Rattle.interval_sets.specs.Sets.{members, ends_before, is_normal, AreHeld, IsNormal}
-use Rattle.interval_sets.specs.Edges.{is_past, stands_before, low_edge, high_edge, low_end, high_end, edges_of, Leads, Rises, IsHeldEdge, AreHeldEdges, differs, oddly_many, IsDownward, combined, IsCombination}
+use Rattle.interval_sets.specs.internal.Edges.{is_past, stands_before, low_edge, high_edge, low_end, high_end, edges_of, Leads, Rises, IsHeldEdge, AreHeldEdges, differs, oddly_many, IsDownward, in_combination, IsCombination}
 use Rattle.interval_sets.proofs.EdgeOrder.{past_before}
 use Rattle.interval_sets.proofs.Merging.{none_after}
 
@@ -24,7 +24,7 @@ above_past end.NoBound q = refl
 above_past (end.Bound p true) q = refl
 above_past (end.Bound p false) q = refl
 
-not_twice : (b : Bool) → b ≡ not (not b)
+pub not_twice : (b : Bool) → b ≡ not (not b)
 not_twice true = refl
 not_twice false = refl
 
@@ -180,23 +180,23 @@ made_of_edges how left right pieces l r edges p q e made =
     let R : List Edge → Type 0 = λ x. IsCombination how l r x in
     subst P p (subst Q q (subst R (sym e) made))
 
-combined_none : (how : Combination) → combined how false false ≡ false
-combined_none Union = refl
-combined_none Meet = refl
-combined_none Difference = refl
+combination_none : (how : Combination) → in_combination how false false ≡ false
+combination_none Union = refl
+combination_none Meet = refl
+combination_none Difference = refl
 
 -- a combination of sets has an even number of edges
 pub combination_even : (how : Combination) (left right : List Interval) (l r edges : List Edge) → l ≡ edges_of left → r ≡ edges_of right → IsCombination how l r edges → oddly_many (λ e. true) edges ≡ false
 combination_even how left right l r edges p q made =
     made.changes (λ e. true) (λ e f h k. refl)
-    ∙ ap₂ (combined how) (ap (oddly_many (λ e. true)) p ∙ even_edges left) (ap (oddly_many (λ e. true)) q ∙ even_edges right)
-    ∙ combined_none how
+    ∙ ap₂ (in_combination how) (ap (oddly_many (λ e. true)) p ∙ even_edges left) (ap (oddly_many (λ e. true)) q ∙ even_edges right)
+    ∙ combination_none how
 
-pub combination_members : (how : Combination) (left right pieces : List Interval) → IsNormal left → IsNormal right → IsCombination how (edges_of left) (edges_of right) (edges_of pieces) → (q : Rational) → members pieces q ≡ combined how (members left q) (members right q)
+pub combination_members : (how : Combination) (left right pieces : List Interval) → IsNormal left → IsNormal right → IsCombination how (edges_of left) (edges_of right) (edges_of pieces) → (q : Rational) → members pieces q ≡ in_combination how (members left q) (members right q)
 combination_members how left right pieces l r made q =
     members_edges pieces q made.rising
     ∙ made.changes (is_past q) (is_downward q)
-    ∙ sym (ap₂ (combined how) (members_edges left q (normal_rises left l.rising)) (members_edges right q (normal_rises right r.rising)))
+    ∙ sym (ap₂ (in_combination how) (members_edges left q (normal_rises left l.rising)) (members_edges right q (normal_rises right r.rising)))
 
 pub combination_normal : (how : Combination) (left right : List Edge) (pieces : List Interval) → IsCombination how left right (edges_of pieces) → IsNormal pieces
 combination_normal how left right pieces made = record { rising = rises_normal pieces made.rising; held = edges_held pieces made.held }

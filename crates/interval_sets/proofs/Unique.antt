@@ -7,18 +7,18 @@ use Rattle.interval_sets.specs.declared.interval.Bound.TheVariants as end
 use Rattle.interval_sets.specs.declared.interval.Interval.{Interval}
 use Rattle.interval_sets.specs.declared.edge.Edge.{Edge}
 use Rattle.interval_sets.specs.Sets.{members, IsNormal}
-use Rattle.interval_sets.specs.Edges.{is_past, stands_before, low_edge, high_edge, low_end, high_end, edges_of, Rises, AreHeldEdges, differs, oddly_many}
+use Rattle.interval_sets.specs.internal.Edges.{is_past, stands_before, low_edge, high_edge, low_end, high_end, edges_of, Rises, AreHeldEdges, differs, oddly_many}
 use Rattle.interval_sets.proofs.Bools.{differs_cancel}
 use Rattle.interval_sets.proofs.EdgeOrder.{past_before, before_from_past, room, same_edge}
 use Rattle.interval_sets.proofs.Merging.{none_after}
 use Rattle.interval_sets.proofs.PieceEdges.{is_downward, normal_rises, held_edges, even_edges, members_edges}
 
 -- a fraction past an edge, and short of two that it stands before
-record Between (a b c : Edge) : Type 0 where
-  at : Rational
-  past : is_past at a ≡ true
-  short : is_past at b ≡ false
-  short_too : is_past at c ≡ false
+pub record Between (a b c : Edge) : Type 0 where
+  pub at : Rational
+  pub past : is_past at a ≡ true
+  pub short : is_past at b ≡ false
+  pub short_too : is_past at c ≡ false
 
 short_of_later : (q : Rational) (c b : Edge) → stands_before c b ≡ true → is_past q c ≡ false → is_past q b ≡ false
 short_of_later q c b h short = by_test (is_past q b) refl
@@ -34,7 +34,7 @@ short_of_other q c b h short = by_test (is_past q c) refl
     by_test true p = absurd (false≢true (sym h ∙ before_from_past q c b p short))
     by_test false p = refl
 
-between : (a b c : Edge) → stands_before a b ≡ true → stands_before a c ≡ true → Between a b c
+pub between : (a b c : Edge) → stands_before a b ≡ true → stands_before a c ≡ true → Between a b c
 between a b c h k = by_test (stands_before c b) refl
   where
     by_test : (t : Bool) → stands_before c b ≡ t → Between a b c

@@ -1,5 +1,5 @@
 pub mod Cuts
-pub mod Edges
+pub mod Examples
+pub mod internal
 pub mod Intervals
-pub mod MergeSteps
 pub mod Sets

@@ -5,8 +5,8 @@ use crate::interval::Bound;
 use exact_fraction::frac::Frac;
 use exact_fraction::relation::Relation;
 
-/// A place on the line of fractions at which membership in a set can change: an end of the line, or just below or just
-/// above a number (own).
+/// A place on the line of fractions at which membership in a set can change: an end of the line, or
+/// just below or just above a number.
 #[derive(Clone, Copy, Debug)]
 pub(crate) enum Edge {
     /// Below all fractions.
@@ -20,7 +20,8 @@ pub(crate) enum Edge {
 }
 
 impl Edge {
-    ghost use Rattle.interval_sets.specs.Edges.{low_edge, high_edge, low_end, high_end, stands_before};
+    ghost use Rattle.interval_sets.specs.internal.Edges.{low_edge, high_edge, low_end, high_end};
+    ghost use Rattle.interval_sets.specs.internal.Edges.{stands_before};
 
     /// The edge at which membership begins at a low end.
     pub(crate) fn of_low(low: &Bound) -> Edge

@@ -3,6 +3,7 @@ ghost use Rattle.std.specs.Prelude.{◌≡◌, ◌↔◌, ◌&&◌, ◌||◌, no
 ghost use Rattle.exact_fraction.specs.Number.{Rational};
 ghost use Rattle.exact_fraction.specs.Relations.{relates};
 ghost use Rattle.interval_sets.specs.Sets.{members, IsNormal};
+ghost use Rattle.interval_sets.specs.Sets.{set_of, union_of, intersection_of, complement_of};
 
 use crate::combination::Combination;
 use crate::interval::{Bound, Interval};
@@ -13,8 +14,8 @@ use exact_fraction::relation::Relation;
 use std::alloc::{AllocError, Global};
 use std::marker::Model;
 
-/// A set of fractions, kept as the intervals that make it up, in normal form: they are not empty and rise, and no two of
-/// them together are one interval (own).
+/// A set of fractions, kept as the intervals that make it up, in normal form: they are not empty
+/// and rise, and no two of them together are one interval.
 ///
 /// Its members are among all fractions, also those that a number cannot hold.
 #[derive(Debug, Drop)]
@@ -35,19 +36,25 @@ impl Model for IntervalSet {
 }
 
 impl IntervalSet {
-    /// The numbers that stand in the relation to `c`: NoMemory is the one error (own).
+    /// The numbers that stand in the relation to `c`: NoMemory is the one error.
     pub fn of(alloc: Global, rel: Relation, c: Frac) -> Result<IntervalSet, NoMemory>
+        ensures value { IfOk result (λ set. set ≡ set_of rel c) }
         ensures members { IfOk result (λ set. (q : Rational) → members set q ≡ relates rel q c) }
         ensures normal { IfOk result (λ set. IsNormal set) }
     {
+        // The parts of a number are in lowest terms, by which equal sets have the same pieces.
+        let _denominator = c.den();
         Ok(IntervalSet {
             pieces: pieces_of_relation(alloc, rel, c)?,
         })
     }
 
-    /// The members of either set, in time that grows with the number of pieces: NoMemory is the one error (own).
+    /// The members of either set, in time that grows with the number of pieces: NoMemory is the one
+    /// error.
     pub fn union(&self, alloc: Global, o: &IntervalSet) -> Result<IntervalSet, NoMemory>
-        ensures members { IfOk result (λ set. (q : Rational) → members set q ≡ (members self.now q || members o.now q)) }
+        ensures value { IfOk result (λ set. set ≡ union_of self.now o.now) }
+        ensures members { IfOk result (λ set. (q : Rational) →
+            members set q ≡ (members self.now q || members o.now q)) }
         ensures normal { IfOk result (λ set. IsNormal set) }
     {
         Ok(IntervalSet {
@@ -55,9 +62,12 @@ impl IntervalSet {
         })
     }
 
-    /// The members of both sets, in time that grows with the number of pieces: NoMemory is the one error (own).
+    /// The members of both sets, in time that grows with the number of pieces: NoMemory is the one
+    /// error.
     pub fn meet(&self, alloc: Global, o: &IntervalSet) -> Result<IntervalSet, NoMemory>
-        ensures members { IfOk result (λ set. (q : Rational) → members set q ≡ (members self.now q && members o.now q)) }
+        ensures value { IfOk result (λ set. set ≡ intersection_of self.now o.now) }
+        ensures members { IfOk result (λ set. (q : Rational) →
+            members set q ≡ (members self.now q && members o.now q)) }
         ensures normal { IfOk result (λ set. IsNormal set) }
     {
         Ok(IntervalSet {
@@ -65,9 +75,12 @@ impl IntervalSet {
         })
     }
 
-    /// The fractions that are no members, in time that grows with the number of pieces: NoMemory is the one error (own).
+    /// The fractions that are no members, in time that grows with the number of pieces: NoMemory is
+    /// the one error.
     pub fn complement(&self, alloc: Global) -> Result<IntervalSet, NoMemory>
-        ensures members { IfOk result (λ set. (q : Rational) → members set q ≡ not (members self.now q)) }
+        ensures value { IfOk result (λ set. set ≡ complement_of self.now) }
+        ensures members { IfOk result (λ set. (q : Rational) →
+            members set q ≡ not (members self.now q)) }
         ensures normal { IfOk result (λ set. IsNormal set) }
     {
         let all = [Interval {
@@ -79,21 +92,21 @@ impl IntervalSet {
         })
     }
 
-    /// Whether a number is a member, in time that grows with the number of pieces (own).
+    /// Whether a number is a member, in time that grows with the number of pieces.
     pub fn holds(&self, x: Frac) -> bool
         ensures value { result ≡ members self.now x }
     {
         self.pieces.iter().any(|piece| piece.holds(&x))
     }
 
-    /// Whether no fraction is a member (own).
+    /// Whether no fraction is a member.
     pub fn is_empty(&self) -> bool
         ensures value { IsTrue result ↔ ((q : Rational) → members self.now q ≡ false) }
     {
         self.pieces().is_empty()
     }
 
-    /// The intervals that make up the set, in normal form (own).
+    /// The intervals that make up the set, in normal form.
     pub fn pieces(&self) -> &[Interval]
         ensures value { result.now ≡ self.now }
         ensures normal { IsNormal self.now }
@@ -112,8 +125,8 @@ impl Clone for IntervalSet {
     }
 }
 
-/// Two sets are equal exactly where they have the same members among all fractions, and then they have the same pieces
-/// (own).
+/// Two sets are equal exactly where they have the same members among all fractions, and then they
+/// have the same pieces.
 impl PartialEq for IntervalSet {
     ghost use Rattle.std.specs.Cmp.Lexicographic.{pointwise, lists_per};
     ghost use Rattle.interval_sets.specs.contracts.interval.IntervalPartialEq.TheImpl as IntervalEq;
@@ -124,7 +137,8 @@ impl PartialEq for IntervalSet {
     ghost laws = { lists_per laws-law };
 
     fn eq(&self, other: &Self) -> bool
-        ensures same_members { IsTrue result ↔ ((q : Rational) → members self.now q ≡ members other.now q) }
+        ensures same_members { IsTrue result
+            ↔ ((q : Rational) → members self.now q ≡ members other.now q) }
         ensures same_pieces { IsTrue result ↔ (self.now ≡ other.now) }
         ensures tested { result ≡ pointwise IntervalEq.eq-value.it self.now other.now }
     {

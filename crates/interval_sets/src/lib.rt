@@ -1,4 +1,5 @@
-//! Sets of fractions as intervals in normal form, and lists of cuts that are read at a counted number of steps.
+//! Sets of fractions as intervals in normal form, and lists of cuts that are read at a counted
+//! number of steps.
 #![tactic(auto)]
 
 mod combination;

@@ -1,7 +1,9 @@
 //! The edges of combinations of sets.
-ghost use Rattle.std.specs.Prelude.{◌≡◌, ◌<◌, true, ◌++◌, ◌∷◌, [], if◌then◌else◌, length, IfOk, OnOk};
-ghost use Rattle.interval_sets.specs.Edges.{Rises, AreHeldEdges, IsCombination, differs, rest_after};
-ghost use Rattle.interval_sets.specs.MergeSteps.{next_step_of, sooner_of};
+ghost use Rattle.std.specs.Prelude.{◌≡◌, ◌<◌, true, ◌++◌, ◌∷◌, [], if◌then◌else◌, length};
+ghost use Rattle.std.specs.Prelude.{IfOk, OnOk};
+ghost use Rattle.interval_sets.specs.internal.Edges.{Rises, AreHeldEdges, IsCombination};
+ghost use Rattle.interval_sets.specs.internal.Edges.{differs, rest_after};
+ghost use Rattle.interval_sets.specs.internal.MergeSteps.{next_step_of, sooner_of};
 
 use crate::combination::Combination;
 use crate::edge::Edge;
@@ -19,7 +21,8 @@ pub(crate) struct Step {
 impl Step {
     /// The step over `edge`, which is the first of the left, of the right or of both.
     fn new(edge: Edge, from_left: bool, from_right: bool) -> Step
-        ensures value { result ≡ record { edge = edge; from_left = from_left; from_right = from_right } }
+        ensures value { result
+            ≡ record { edge = edge; from_left = from_left; from_right = from_right } }
     {
         Step {
             edge,
@@ -29,9 +32,9 @@ impl Step {
     }
 }
 
-/// The edges of the combination `how` of two sets, in time that grows with the number of edges: NoMemory is the one
-/// error.
-pub(crate) fn merged(
+/// The edges of the combination `how` of two sets, in time that grows with the number of edges:
+/// NoMemory is the one error.
+pub(crate) fn merge_edges(
     alloc: Global,
     how: Combination,
     left: &[Edge],
@@ -41,7 +44,7 @@ pub(crate) fn merged(
     requires left_held { AreHeldEdges left.now }
     requires right_rises { Rises right.now }
     requires right_held { AreHeldEdges right.now }
-    ensures combined { IfOk result (λ edges. IsCombination how left.now right.now edges.items) }
+    ensures combination { IfOk result (λ edges. IsCombination how left.now right.now edges.items) }
 {
     let mut edges = Vec::new(alloc);
     let mut left = left;
@@ -89,12 +92,12 @@ fn sooner(left: &Edge, right: &Edge) -> Step
     Step::new(*left, true, true)
 }
 
-/// The edges without the first one, where that is taken.
-fn rest_after(taken: bool, edges: &[Edge]) -> &[Edge]
-    requires not_empty { taken ≡ true → 0 < length edges.now }
-    ensures value { result.now ≡ rest_after taken edges.now }
+/// The edges without the first one, where that one is taken.
+fn rest_after(is_taken: bool, edges: &[Edge]) -> &[Edge]
+    requires not_empty { is_taken ≡ true → 0 < length edges.now }
+    ensures value { result.now ≡ rest_after is_taken edges.now }
 {
-    if taken { &edges[1..] } else { edges }
+    if is_taken { &edges[1..] } else { edges }
 }
 
 /// Whether two tests differ.
@@ -106,7 +109,8 @@ fn differs(left: bool, right: bool) -> bool
 
 /// Adds the edge where it is wanted.
 fn push_where(wanted: bool, edges: &mut Vec<Edge>, edge: Edge) -> Result<(), NoMemory>
-    ensures items { OnOk result (edges.new.items ≡ (if wanted then edges.old.items ++ edge ∷ [] else edges.old.items)) }
+    ensures items { OnOk result (edges.new.items
+        ≡ (if wanted then edges.old.items ++ edge ∷ [] else edges.old.items)) }
 {
     if !wanted {
         return Ok(());

@@ -1,14 +1,13 @@
 //! The pieces of sets.
 ghost use Rattle.std.specs.Prelude.{◌≡◌, [], ◌∷◌, true, false, IfOk};
 ghost use Rattle.exact_fraction.specs.Number.{Rational};
-ghost use Rattle.exact_fraction.specs.Relations.{relates};
-ghost use Rattle.interval_sets.specs.Sets.{members, IsNormal};
-ghost use Rattle.interval_sets.specs.Edges.{combined, edges_of, Rises, oddly_many};
+ghost use Rattle.interval_sets.specs.Sets.{members, IsNormal, set_of};
+ghost use Rattle.interval_sets.specs.internal.Edges.{in_combination, edges_of, Rises, oddly_many};
 
 use crate::combination::Combination;
 use crate::edge::Edge;
 use crate::interval::{Bound, Interval};
-use crate::merge::merged;
+use crate::merge::merge_edges;
 use byte_edge::NoMemory;
 use exact_fraction::frac::Frac;
 use exact_fraction::relation::Relation;
@@ -23,12 +22,13 @@ pub(crate) fn combine(
 ) -> Result<Vec<Interval>, NoMemory>
     requires left_normal { IsNormal left.now }
     requires right_normal { IsNormal right.now }
-    ensures members { IfOk result (λ pieces. (q : Rational) → members pieces.items q ≡ combined how (members left.now q) (members right.now q)) }
+    ensures members { IfOk result (λ pieces. (q : Rational) →
+        members pieces.items q ≡ in_combination how (members left.now q) (members right.now q)) }
     ensures normal { IfOk result (λ pieces. IsNormal pieces.items) }
 {
     let left_edges = edges_of(alloc, left)?;
     let right_edges = edges_of(alloc, right)?;
-    let edges = merged(alloc, how, &left_edges, &right_edges)?;
+    let edges = merge_edges(alloc, how, &left_edges, &right_edges)?;
     let pieces = pieces_of(alloc, &edges)?;
     Ok(pieces)
 }
@@ -67,16 +67,14 @@ fn pieces_of(alloc: Global, edges: &[Edge]) -> Result<Vec<Interval>, NoMemory>
 }
 
 /// The pieces of the numbers that stand in a relation to `c`.
+#[tactic(auto, unfolding(crate::specs::Sets::set_of))]
 pub(crate) fn pieces_of_relation(
     alloc: Global,
     rel: Relation,
     c: Frac,
 ) -> Result<Vec<Interval>, NoMemory>
-    ensures members { IfOk result (λ pieces. (q : Rational) → members pieces.items q ≡ relates rel q c) }
-    ensures normal { IfOk result (λ pieces. IsNormal pieces.items) }
+    ensures value { IfOk result (λ pieces. pieces.items ≡ set_of rel c) }
 {
-    // The parts of a number are in lowest terms, by which equal sets have the same pieces.
-    let _denominator = c.den();
     match rel {
         Relation::Eq => one_piece(alloc, Bound::Bound(c, false), Bound::Bound(c, false)),
         Relation::Ne => all_but(alloc, c),
@@ -98,7 +96,9 @@ fn one_piece(alloc: Global, low: Bound, high: Bound) -> Result<Vec<Interval>, No
 
 /// The interval below `c` and that above it.
 fn all_but(alloc: Global, c: Frac) -> Result<Vec<Interval>, NoMemory>
-    ensures value { IfOk result (λ pieces. pieces.items ≡ record { low = Bound.NoBound; high = Bound.Bound c true } ∷ record { low = Bound.Bound c true; high = Bound.NoBound } ∷ []) }
+    ensures value { IfOk result (λ pieces. pieces.items
+        ≡ record { low = Bound.NoBound; high = Bound.Bound c true }
+        ∷ record { low = Bound.Bound c true; high = Bound.NoBound } ∷ []) }
 {
     let mut pieces = Vec::new(alloc);
     pieces.push(Interval {

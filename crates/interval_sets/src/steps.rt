@@ -4,7 +4,7 @@ ghost use Rattle.std.specs.Prelude.{◌≡◌, ◌<◌, ◌+◌};
 use std::marker::Model;
 use std::sync::ledger::{Blank, Book, Ledger, Share};
 
-/// How many steps were counted: a number that contracts see, and that takes no bytes when it runs (own).
+/// How many steps were counted: a number that contracts see, and that takes no bytes when it runs.
 ///
 /// `CutList::probe` alone raises it.
 #[derive(Drop)]
@@ -24,7 +24,7 @@ impl<L: Ledger> Model for Steps<L> {
 }
 
 impl<L: Ledger> Steps<L> {
-    /// A counter at 0, from a ledger of its own (own).
+    /// A counter at 0, from a ledger of its own.
     pub fn new(blank: Blank) -> Steps<L>
         requires name { blank.name ≡ L.name }
         requires parts { blank.parts ≡ L.parts }

@@ -61,7 +61,7 @@ fn a_copy_has_the_same_members(rt: HostRuntime) -> Result<(), Fail> {
 }
 
 /// How 1/2 stands to cut `k`, by a counter of its own.
-fn half_at<L: Ledger>(blank: Blank, cuts: &CutList, k: usize) -> Ordering
+fn half_at<L: Ledger>(blank: Blank, cuts: &CutList<L>, k: usize) -> Ordering
     requires name { blank.name ≡ L.name }
     requires parts { blank.parts ≡ L.parts }
     requires one { 0 < L.parts }
@@ -74,7 +74,7 @@ fn half_at<L: Ledger>(blank: Blank, cuts: &CutList, k: usize) -> Ordering
 
 #[test]
 fn a_number_stands_between_two_cuts(rt: HostRuntime) -> Result<(), Fail> {
-    let cuts = CutList::new(vec![in rt.alloc(); Frac::zero(), Frac::one()]?);
+    let cuts: CutList<Brand> = CutList::new(vec![in rt.alloc(); Frac::zero(), Frac::one()]?);
     assert_eq!(rt; cuts.count(), 2);
     assert_eq!(rt;
         half_at::<Brand>(Blank::new(1), &cuts, 0),

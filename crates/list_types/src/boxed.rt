@@ -4,7 +4,7 @@ ghost use Rattle.std.specs.Prelude.{◌≡◌, IfOk};
 use std::alloc::{AllocError, Global};
 use std::marker::Model;
 
-/// A box that contracts see as its value, for a type that leads back to itself (own).
+/// A box that contracts see as its value, for a type that leads back to itself.
 #[derive(Debug, Drop)]
 pub struct Boxed<T> {
     inner: Box<T>,
@@ -34,8 +34,8 @@ impl<T> Boxed<T> {
         Box::into_inner(inner)
     }
 
-    /// An allocator by which a copy is made: the one that the box came from. A box is seen as its value alone, so to a caller
-    /// any allocator may come.
+    /// An allocator by which a copy is made: the one that the box came from. A box is seen as its
+    /// value alone, so to a caller any allocator may come.
     pub fn allocator(&self) -> Global {
         *Box::allocator(&self.inner)
     }

@@ -1,13 +1,16 @@
 //! Lists.
-ghost use Rattle.std.specs.Prelude.{◌≡◌, [], ◌↔◌, ◌<◌, length, slice_get, IsTrue, OnSome};
+ghost use Rattle.std.specs.Prelude.{◌≡◌, [], ◌∷◌, ◌++◌, ◌↔◌, ◌<◌, length, slice_get, slice_set};
+ghost use Rattle.std.specs.Prelude.{IsTrue, Some, OnSome, OnOk, OnErr, IfErr};
 ghost use Rattle.std.specs.List.{AllZip};
 ghost use Rattle.std.specs.Option.{option_copied};
 ghost use Rattle.std.specs.Cmp.Lexicographic.{pointwise, lists_equiv, lists_per};
 
-use std::alloc::{AllocError, Global};
+use std::alloc::{AllocError, AllocFailed, Global};
 use std::marker::Model;
+use std::mem;
 
-/// A list that is made from a `Vec` and gives it back, and that contracts see as the list of its items (own).
+/// A list that is made from a `Vec` and gives it back, and that contracts see as the list of its
+/// items.
 #[derive(Debug, Drop)]
 pub struct Items<T> {
     items: Vec<T>,
@@ -79,6 +82,26 @@ impl<T> Items<T> {
         ensures within { OnSome result (at < length self.now) }
     {
         self.items.get(at)
+    }
+
+    /// Adds an item at the end, in about the same time however many items there are. It fails only
+    /// where memory is wanting: the list is then as before, and the item comes back in the error.
+    pub fn push(&mut self, item: T) -> Result<(), AllocFailed<T>>
+        ensures pushed { OnOk result (self.new ≡ self.old ++ item ∷ []) }
+        ensures kept { OnErr result (self.new ≡ self.old) }
+        ensures returned { IfErr result (λ failed. failed.value ≡ item) }
+    {
+        self.items.push(item)
+    }
+
+    /// Puts an item at `at`, counted from 0, in place of the one there, which it returns. It takes
+    /// no memory.
+    pub fn set(&mut self, at: usize, item: T) -> T
+        requires within { at < length self.old }
+        ensures items { self.new ≡ slice_set self.old at item }
+        ensures replaced { slice_get self.old at ≡ Some result }
+    {
+        mem::replace(&mut self.items[at], item)
     }
 }
 

@@ -12,9 +12,9 @@ use Rattle.exact_fraction.specs.Checked.{made, fitting}
 use Rattle.num_text.specs.declared.error.NumberFault.TheVariants.{TooLarge}
 use Rattle.num_text.specs.Fields.{is_end}
 use Rattle.num_text.specs.Numbers.{signed, scaled, bounded, in_bounds, significand, end_zeros}
-use Rattle.num_text.specs.Stands.{IsHeld}
+use Rattle.num_text.specs.internal.Significands.{IsHeld}
 use Rattle.num_text.proofs.Digits.{ten_pos}
-use Rattle.exact_fraction.proofs.Cited.{lowest_terms-overflows}
+use Rattle.exact_fraction.proofs.PublicLaws.{lowest_terms-overflows}
 
 -- the size of a number with a sign
 pub size-signed : (negative : Bool) (size : ℕ) → unsigned_abs (signed negative size) ≡ size

@@ -130,7 +130,7 @@ value_after number (byte ∷ bytes) =
     let grown : number * 10 ^ length (byte ∷ bytes) ≡ number * (10 ^ length bytes * 10) = ap (λ x. number * x) power in
     omega arith
 
-after_append : (number : ℕ) (front back : List ℕ) → digits_value_after 10 number (front ++ back) ≡ digits_value_after 10 (digits_value_after 10 number front) back
+pub after_append : (number : ℕ) (front back : List ℕ) → digits_value_after 10 number (front ++ back) ≡ digits_value_after 10 (digits_value_after 10 number front) back
 after_append number [] back = refl
 after_append number (byte ∷ front) back = after_append (number * 10 + digit_value byte) front back
 

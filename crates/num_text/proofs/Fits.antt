@@ -2,7 +2,7 @@
 use Rattle.std.proofs.Common.{◌≡◌, ℕ, zero, suc, ◌^◌, ◌<◌, ℤ, pos, refl, arith, Some}
 use Rattle.exact_fraction.specs.Number.{ratio}
 use Rattle.exact_fraction.specs.Checked.{made, fitting}
-use Rattle.exact_fraction.proofs.Cited.{lowest_terms-fits}
+use Rattle.exact_fraction.proofs.PublicLaws.{lowest_terms-fits}
 
 -- a number that is made of two that fit
 pub made-ratio : (n : ℤ) (d : ℤ) (size below : ℕ) → n ≡ pos size → d ≡ pos below → 0 < below → size < 2 ^ 63 → below < 2 ^ 63 → made n d ≡ Some (ratio (pos size) below)

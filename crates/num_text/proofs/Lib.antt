@@ -10,8 +10,16 @@ pub mod Within
 pub mod Numerals
 pub mod Zeros
 pub mod Bounds
+pub mod PlainDecimals
 pub mod WrittenDecimals
 pub mod ValueTrips
 pub mod June
 pub mod Tens
-pub mod Cited
+pub mod Grammar
+pub mod ClockForms
+pub mod NumberForms
+pub mod DecimalForms
+pub mod TimeForms
+pub mod DateForms
+pub mod MomentForms
+pub mod PublicLaws

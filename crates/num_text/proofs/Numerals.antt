@@ -53,12 +53,12 @@ by_byte byte bytes true e = ap (λ rest. byte ∷ rest) e
 by_byte byte bytes false e = refl
 
 -- a text is the digits that it begins with, and what stands behind them
-front_back : (text : List ℕ) → leading_digits text ++ past_digits text ≡ text
+pub front_back : (text : List ℕ) → leading_digits text ++ past_digits text ≡ text
 unfolding leading_digits past_digits
 front_back [] = refl
 front_back (byte ∷ bytes) = by_byte byte bytes (is_ascii_digit byte) (front_back bytes)
 
-ended : (rest : List ℕ) → is_end rest ≡ true → rest ≡ []
+pub ended : (rest : List ℕ) → is_end rest ≡ true → rest ≡ []
 ended [] e = refl
 ended (byte ∷ bytes) e = absurd cc
 

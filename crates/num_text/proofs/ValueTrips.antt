@@ -12,7 +12,7 @@ use Rattle.std.specs.Char.{is_ascii_digit}
 use Rattle.std.specs.Str.Parse.{digits_value, AllDigits}
 use Rattle.exact_fraction.specs.Number.{Rational, den, ratio, fits, IsNumber}
 use Rattle.exact_fraction.specs.Checked.{made, fitting}
-use Rattle.exact_fraction.proofs.Cited.{lowest_terms-positive, lowest_terms-itself, lowest_terms-of_same}
+use Rattle.exact_fraction.proofs.PublicLaws.{lowest_terms-positive, lowest_terms-itself, lowest_terms-of_same}
 use Rattle.std.proofs.Math.IntN.{negsuc-*ℤ-pos}
 use Rattle.num_text.specs.Fields.{field, past}
 use Rattle.num_text.specs.Pointed.{decimals}
@@ -138,7 +138,7 @@ minus_times a b c d e = minus_product a b ∙ ap (λ n. neg_ℤ (pos n)) e ∙ s
 plus_times : (a b c d : ℕ) → a * b ≡ c * d → pos a *ℤ pos b ≡ pos c *ℤ pos d
 plus_times a b c d e = omega (arith, ints)
 
-signed_times : (negative : Bool) (a b c d : ℕ) → a * b ≡ c * d → signed negative a *ℤ pos b ≡ signed negative c *ℤ pos d
+pub signed_times : (negative : Bool) (a b c d : ℕ) → a * b ≡ c * d → signed negative a *ℤ pos b ≡ signed negative c *ℤ pos d
 signed_times true a b c d e = minus_times a b c d e
 signed_times false a b c d e = plus_times a b c d e
 

@@ -11,7 +11,7 @@ use Rattle.std.specs.Str.Parse.{digits_value}
 use Rattle.exact_fraction.specs.Number.{Rational, den, ratio, whole}
 use Rattle.exact_fraction.specs.Number.{zero as nought}
 use Rattle.exact_fraction.specs.Order.{◌≤ℚ◌, ◌<ℚ◌, less}
-use Rattle.exact_fraction.proofs.Cited.{lowest_terms-value, lowest_terms-divides, lowest_terms-itself, lowest_terms-of_whole, tests-less}
+use Rattle.exact_fraction.proofs.PublicLaws.{lowest_terms-value, lowest_terms-divides, lowest_terms-itself, lowest_terms-of_whole, tests-less}
 use Rattle.num_text.specs.Fields.{leading_digits, past_digits, is_end}
 use Rattle.num_text.specs.Pointed.{last_digits, decimals, pointed, pointed_up_to, decimal_up_to}
 use Rattle.num_text.specs.Clocks.{clock, clock_below}

@@ -1,15 +1,15 @@
 -- Written decimals.
-use Rattle.std.proofs.Common.{◌≡◌, ℕ, zero, suc, ◌+◌, ◌-◌, ◌*◌, ◌/◌, ◌%◌, ◌^◌, ◌<◌, ◌≤◌, false, List, ◌++◌, length, refl, sym, ap, ◌∙◌, arith, pow-suc, ℤ, SFits, to_z, of_z, w64}
-use Rattle.std.proofs.lemmas.Int.{to_z-of_z}
+use Rattle.std.proofs.Common.{◌≡◌, ℕ, zero, suc, ◌+◌, ◌-◌, ◌*◌, ◌/◌, ◌%◌, ◌^◌, ◌<◌, ◌≤◌, false, List, [], ◌++◌, length, refl, sym, ap, ◌∙◌, arith, pow-suc, ℤ, pos, negsuc, ◌≤ℤ◌, SFits, to_z, of_z, w64}
+use Rattle.std.proofs.lemmas.Int.{ints, to_z-of_z}
 use Rattle.std.proofs.lemmas.List.{append-nil}
 use Rattle.std.specs.Prelude.{◌==◌, unsigned_abs, decimal}
 use Rattle.std.proofs.lemmas.Bool.Decides.{nat_tests}
 use Rattle.std.proofs.lemmas.Fmt.{length-decimal-le}
 use Rattle.exact_fraction.specs.Number.{Rational, den, fits, IsNumber}
-use Rattle.exact_fraction.proofs.Cited.{lowest_terms-positive}
+use Rattle.exact_fraction.proofs.PublicLaws.{lowest_terms-positive}
 use Rattle.num_text.specs.Numbers.{without_end_zeros}
 use Rattle.num_text.specs.Written.{places}
-use Rattle.num_text.specs.Values.{written_behind}
+use Rattle.num_text.specs.Values.{written_sign, written_behind, written_units, written_size, written_value}
 use Rattle.num_text.proofs.Zeros.{without-zero, without-digit}
 
 -- digits that do not end with a zero
@@ -58,3 +58,21 @@ length-decimal n small = length-decimal-le 19 n (omega arith) (omega arith) (ome
 
 pub size_passed : (n m : ℤ) (size : ℕ) → SFits w64 n → size ≡ unsigned_abs (to_z w64 (of_z w64 n)) → n ≡ m → size ≡ unsigned_abs m
 size_passed n m size fits is same = is ∙ ap unsigned_abs (to_z-of_z w64 n fits) ∙ ap unsigned_abs same
+
+-- whole numbers
+no_sign : (n : ℤ) → pos 0 ≤ℤ n → written_sign n ≡ []
+no_sign (pos n) low = refl
+no_sign (negsuc n) low = absurd (omega (arith, ints))
+
+whole_size : (n : ℕ) → written_size n 1 ≡ decimal n
+unfolding written_size written_units places without_end_zeros
+whole_size n =
+    let front : n * 10 ^ 18 / 10 ^ 18 ≡ n = omega arith in
+    let back : n * 10 ^ 18 % 10 ^ 18 ≡ 0 = omega arith in
+    rw (front, back) (append-nil (decimal n))
+
+pub written_whole : (q : Rational) (n : ℕ) → pos 0 ≤ℤ q.num → pos (den q) ≡ pos 1 → n ≡ unsigned_abs q.num → decimal n ≡ written_value q
+unfolding written_value
+written_whole q n low one size =
+    let below : den q ≡ 1 = ap unsigned_abs one in
+    rw (no_sign q.num low, below, ← size) (sym (whole_size n))

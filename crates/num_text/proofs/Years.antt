@@ -222,3 +222,41 @@ day_of_date n m d days known count =
 pub date_told : (y m d : ℕ) → 1 ≤ y → IsCivilDate (pos y) m d → IsCivilDay (days_after_first (days_from_civil (pos y) m d)) y m d (day_of_year (pos y) m d)
 date_told zero m d some known = absurd (omega arith)
 date_told (suc n) m d some known = day_of_date n m d (days_after_first (days_from_civil (pos (suc n)) m d)) known (counted (suc n) m d some known)
+
+-- ---- what the parts of a day lie within
+-- a day stands in its year from 1 to 366
+pub place_within : (days year : ℕ) → IsYearOf days year → (1 ≤ days - days_through (year - 1) + 1) × (days - days_through (year - 1) + 1 ≤ 366)
+place_within days zero known = absurd (omega (arith, known.first))
+place_within days (suc n) known =
+    let back : suc n - 1 ≡ n = omega arith in
+    let low = known.low in
+    let high = known.high in
+    rw back (omega arith, omega (arith, rw back at low, high))
+
+pub place_bounds : (days : ℕ) → (1 ≤ place_at days) × (place_at days ≤ 366)
+unfolding place_at
+place_bounds days = place_within days (year_at days) (year_at-holds days)
+
+-- a month is from 1 to 12: the twelfth ends with the year
+few_months : (days n place count : ℕ) → IsYearOf days (suc n) → place ≡ days - days_through n + 1 → IsMonthCount (pos (suc n)) place 12 count → count < 12
+few_months days n place count year is known =
+    let length = year_length n in
+    let high = year.high in
+    let some = known.low in
+    elim (cases_lt count 12) [
+      | inl less ↦ less
+      | inr more ↦ let all : count ≡ 12 = omega (arith, known.most) in let below = rw all at some in absurd (omega arith)
+    ]
+
+month_within : (days year place count : ℕ) → IsYearOf days year → place ≡ days - days_through (year - 1) + 1 → IsMonthCount (pos year) place 12 count → count < 12
+month_within days zero place count known is months = absurd (omega (arith, known.first))
+month_within days (suc n) place count known is months =
+    let back : suc n - 1 ≡ n = omega arith in
+    few_months days n place count known (rw back at is) months
+
+pub month_bounds : (days : ℕ) → (1 ≤ month_at days) × (month_at days ≤ 12)
+unfolding month_at place_at
+month_bounds days =
+    let place : ℕ = days - days_through (year_at days - 1) + 1 in
+    let few = month_within days (year_at days) place (months_before (pos (year_at days)) place 12) (year_at-holds days) refl (months_before-counts (pos (year_at days)) place 12 (omega arith)) in
+    (omega arith, omega arith)

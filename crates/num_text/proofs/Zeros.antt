@@ -9,7 +9,7 @@ use Rattle.std.specs.List.{list_all}
 use Rattle.std.specs.Char.{is_ascii_digit}
 use Rattle.std.specs.Str.Parse.{digits_value}
 use Rattle.num_text.specs.Numbers.{without_end_zeros, significand}
-use Rattle.num_text.specs.Stands.{IsHeld}
+use Rattle.num_text.specs.internal.Significands.{IsHeld}
 use Rattle.num_text.proofs.Digits.{digits_value-append, ten_pos, digit_value-ascii}
 
 abbrev pub all_zeros : List ℕ → Bool

@@ -1,7 +1,7 @@
+pub mod Bytes
 pub mod Fields
 pub mod Dates
 pub mod Clocks
-pub mod Views
 pub mod CivilDays
 pub mod Written
 pub mod Pointed
@@ -10,4 +10,10 @@ pub mod Steps
 pub mod Counts
 pub mod Numbers
 pub mod Values
-pub mod Stands
+pub mod internal
+pub mod NumberText
+pub mod DecimalText
+pub mod ClockText
+pub mod DateText
+pub mod MomentText
+pub mod TimeText

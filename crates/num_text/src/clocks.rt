@@ -8,8 +8,9 @@ use crate::fields::{Field, past};
 /// The seconds of a day.
 pub(crate) const DAY: u64 = 86_400;
 
-/// The seconds of `h:mm` or `h:mm:ss`: one to seven digits of hours, and minutes and seconds of one or two digits below 60 (own;
-/// the forms are those of the SWMM 5.2 manual, [OPTIONS]). None exactly where the text is anything else.
+/// The seconds of `h:mm` or `h:mm:ss`: one to seven digits of hours, and minutes and seconds of one
+/// or two digits below 60 (the forms are those of the SWMM 5.2 manual, [OPTIONS]). None exactly
+/// where the text is anything else.
 pub fn read_clock(text: &[u8]) -> Option<u64>
     ensures value { result ≡ clock 7 text.now }
     ensures bound { IfSome result (λ second. second < 36_000_000_000) }
@@ -17,8 +18,9 @@ pub fn read_clock(text: &[u8]) -> Option<u64>
     clock(text, 7)
 }
 
-/// The seconds since midnight of a time of day below 24 hours, in the forms that `read_clock` reads (own; the forms are those of
-/// the SWMM 5.2 manual, [OPTIONS]). None exactly where the text is anything else.
+/// The seconds since midnight of a time of day below 24 hours, in the forms that `read_clock` reads
+/// (the forms are those of the SWMM 5.2 manual, [OPTIONS]). None exactly where the text is anything
+/// else.
 pub fn read_day_time(text: &[u8]) -> Option<u64>
     ensures value { result ≡ clock_below 7 86_400 text.now }
     ensures bound { IfSome result (λ second. second < 86_400) }
@@ -26,7 +28,8 @@ pub fn read_day_time(text: &[u8]) -> Option<u64>
     clock_below(text, 7, DAY)
 }
 
-/// The seconds of `h:mm` or `h:mm:ss`, of at most `most` digits of hours, where they are below `limit`.
+/// The seconds of `h:mm` or `h:mm:ss`, of at most `most` digits of hours, where they are below
+/// `limit`.
 pub(crate) fn clock_below(text: &[u8], most: usize, limit: u64) -> Option<u64>
     requires seven { most ≤ 7 }
     ensures value { result ≡ clock_below most limit text.now }
@@ -53,7 +56,8 @@ fn clock(text: &[u8], most: usize) -> Option<u64>
     Some(3_600 * hours.number + 60 * minutes.number + seconds)
 }
 
-/// The seconds behind hours and minutes: a colon and one or two digits below 60, or 0 where the text ends.
+/// The seconds behind hours and minutes: a colon and one or two digits below 60, or 0 where the
+/// text ends.
 #[tactic(auto, unfolding(crate::specs::Clocks::seconds_part))]
 fn seconds_part(text: &[u8]) -> Option<u64>
     ensures value { result ≡ seconds_part text.now }

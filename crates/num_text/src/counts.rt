@@ -7,8 +7,8 @@ ghost use Rattle.num_text.specs.Counts.{is_padded, count_in, count_of};
 use crate::fields::number_up_to;
 use crate::pointed::last_digits;
 
-/// The count that a text writes: one to twenty digits without leading zeros, below 2^64 (own). None exactly where the text is
-/// anything else.
+/// The count that a text writes: one to twenty digits without leading zeros, below 2^64. None
+/// exactly where the text is anything else.
 #[tactic(auto, unfolding(crate::specs::Counts::count_of))]
 pub fn read_count(text: &[u8]) -> Option<u64>
     ensures value { result ≡ count_of text.now }

@@ -2,14 +2,15 @@
 ghost use Rattle.std.specs.Prelude.{◌≡◌, ◌<◌, ◌≤◌, ◌≤ℤ◌, pos, neg_ℤ, IfSome};
 ghost use Rattle.std.specs.Option.{option_map};
 ghost use Rattle.num_text.specs.Dates.{is_day, day_number, month_day_year, year_month_day, last_day, date_of, place_in_year, month_and_day, day_by_number, day_of_year_of};
-ghost use Rattle.num_text.specs.Views.{dated_now};
+ghost use Rattle.num_text.specs.internal.Views.{dated_now};
 
 use crate::fields::{Field, last_number, past};
 use jiff::civil::Date;
 
-/// The day number of a date, 0 for 1970-01-01: month, day and year of one or two, one or two and four digits, with `/` or with
-/// `-` between them (own; the form is that of the SWMM 5.2 manual, dates of the input file). None exactly where the text is
-/// anything else, or the calendar has no such day in a year from 1 to 9999.
+/// The day number of a date, 0 for 1970-01-01: month, day and year of one or two, one or two and
+/// four digits, with `/` or with `-` between them (the form is that of the SWMM 5.2 manual, dates
+/// of the input file). None exactly where the text is anything else, or the calendar has no such
+/// day in a year from 1 to 9999.
 pub fn read_date(text: &[u8]) -> Option<i32>
     ensures value { result ≡ date_of text.now }
     ensures low { IfSome result (λ day. neg_ℤ (pos 719_162) ≤ℤ day) }
@@ -21,9 +22,9 @@ pub fn read_date(text: &[u8]) -> Option<i32>
     whole_date(text, b'-')
 }
 
-/// The place of a day in a year, from 1: `month/day` of one or two digits each, counted in a year of 365 days, or one to three
-/// digits from 1 to 366 (own; the forms are those of the SWMM 5.2 manual, control rules). None exactly where the text is anything
-/// else.
+/// The place of a day in a year, from 1: `month/day` of one or two digits each, counted in a year
+/// of 365 days, or one to three digits from 1 to 366 (the forms are those of the SWMM 5.2 manual,
+/// control rules). None exactly where the text is anything else.
 pub fn read_day_of_year(text: &[u8]) -> Option<u16>
     ensures value { result ≡ day_of_year_of text.now }
 {
@@ -33,7 +34,8 @@ pub fn read_day_of_year(text: &[u8]) -> Option<u16>
     day_by_number(text)
 }
 
-/// The day number of a text that is month, day and year, with this separator between them, and nothing more.
+/// The day number of a text that is month, day and year, with this separator between them, and
+/// nothing more.
 fn whole_date(text: &[u8], separator: u8) -> Option<i32>
     ensures value { result ≡ last_day (month_day_year separator text.now) }
     ensures low { IfSome result (λ day. neg_ℤ (pos 719_162) ≤ℤ day) }
@@ -93,7 +95,8 @@ pub(crate) fn year_month_day(text: &[u8]) -> Option<Dated<'_>>
     })
 }
 
-/// The day number of a year, month and day, 0 for 1970-01-01. None where the calendar has no such day.
+/// The day number of a year, month and day, 0 for 1970-01-01. None where the calendar has no such
+/// day.
 fn number_of_day(year: u32, month: u32, day: u32) -> Option<i32>
     requires year_of_four { year < 10_000 }
     requires month_of_two { month < 100 }

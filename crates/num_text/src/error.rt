@@ -1,7 +1,7 @@
 //! Why a text gives no number.
 use thiserror::Error;
 
-/// Why a text gives no number (own).
+/// Why a text gives no number.
 #[derive(Clone, Copy, Debug, PartialEq, Eq, Error)]
 pub enum NumberFault {
     /// The text is no number.

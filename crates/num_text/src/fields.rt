@@ -5,7 +5,7 @@ ghost use Rattle.std.specs.List.{list_all};
 ghost use Rattle.std.specs.Char.{is_ascii_digit};
 ghost use Rattle.std.specs.Str.Parse.{digits_value};
 ghost use Rattle.num_text.specs.Fields.{leading_digits, past_digits, field, field_below, past, is_end, last_number};
-ghost use Rattle.num_text.specs.Views.{field_now};
+ghost use Rattle.num_text.specs.internal.Views.{field_now};
 
 /// How many digits the text begins with.
 fn digit_count(text: &[u8]) -> usize
@@ -48,7 +48,8 @@ pub(crate) fn number_of(digits: &[u8]) -> u64
 pub(crate) fn number_up_to(digits: &[u8], most: u64) -> Option<u64>
     requires digits_alone { IsTrue (list_all is_ascii_digit digits.now) }
     ensures value { result
-        ≡ (if nat_le (digits_value 10 digits.now) most then Some (digits_value 10 digits.now) else None) }
+        ≡ (if nat_le (digits_value 10 digits.now) most
+        then Some (digits_value 10 digits.now) else None) }
 {
     let mut number: u128 = 0;
     for digit in digits {
@@ -71,7 +72,8 @@ pub(crate) struct Field<'a> {
 
 impl<'a> Field<'a> {
     #[tactic(auto, unfolding(crate::specs::Fields::field))]
-    /// The number of `least` to `most` digits that the text begins with. None where it begins with fewer or more.
+    /// The number of `least` to `most` digits that the text begins with. None where it begins with
+    /// fewer or more.
     pub(crate) fn read(text: &'a [u8], least: usize, most: usize) -> Option<Field<'a>>
         requires few { most ≤ 19 }
         ensures value { option_map field_now result ≡ field least most text.now }
@@ -105,7 +107,8 @@ impl<'a> Field<'a> {
     }
 }
 
-/// What stands behind `byte` at the head of the text. None where another byte stands there, or none.
+/// What stands behind `byte` at the head of the text. None where another byte stands there, or
+/// none.
 pub(crate) fn past(byte: u8, text: &[u8]) -> Option<&[u8]>
     ensures value { option_map (λ rest. rest.now) result ≡ past byte text.now }
 {

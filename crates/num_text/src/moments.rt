@@ -1,20 +1,20 @@
 //! Moments.
 ghost use Rattle.std.specs.Prelude.{◌≡◌, ◌+◌, ◌*◌, ◌<◌, ◌≤◌, ◌++◌, ◌≤ℤ◌, length, pos, neg_ℤ, IfSome, Some};
-ghost use Rattle.num_text.specs.CivilDays.{year_at, month_at, day_at};
 ghost use Rattle.num_text.specs.Written.{seconds_after_first, written_day, written_time, written_moment};
 ghost use Rattle.std.specs.Option.{option_map};
 ghost use Rattle.num_text.specs.Clocks.{moment_day, past_gap, seconds_at, moment_of};
-ghost use Rattle.num_text.specs.Views.{dated_now};
+ghost use Rattle.num_text.specs.internal.Views.{dated_now};
 
+use crate::civil_days::civil_day;
 use crate::clocks::{DAY, clock_below};
 use crate::dates::{Dated, month_day_year, year_month_day};
 use crate::fields::past;
 use crate::short_text::ShortText;
 use exact_fraction::moment::Moment;
-use jiff_core::civil::Date as PlainDate;
 
-/// A moment: `YYYY-MM-DD`, or month, day and year with slashes; a `T` or a space; and `h:mm` or `h:mm:ss` below 24 hours (own).
-/// None exactly where the text is anything else, or the calendar has no such day in a year from 1 to 9999.
+/// A moment: `YYYY-MM-DD`, or month, day and year with slashes; a `T` or a space; and `h:mm` or
+/// `h:mm:ss` below 24 hours. None exactly where the text is anything else, or the calendar has no
+/// such day in a year from 1 to 9999.
 #[tactic(auto, unfolding(crate::specs::Clocks::moment_of))]
 pub fn read_moment(text: &[u8]) -> Option<Moment>
     ensures value { result ≡ moment_of text.now }
@@ -64,7 +64,7 @@ fn seconds_to(day: i32, second: u32) -> i64
     day as i64 * 86_400 + second as i64
 }
 
-/// The written moment, `YYYY-MM-DDThh:mm:ss`, which is 19 bytes (own).
+/// The written moment, `YYYY-MM-DDThh:mm:ss`, which is 19 bytes.
 #[tactic(auto, unfolding(crate::specs::Written::written_moment))]
 pub fn moment_text(moment: Moment) -> ShortText
     ensures value { result ≡ written_moment moment }
@@ -94,11 +94,11 @@ fn push_day(text: &mut ShortText, days: u64)
     ensures len { length text.new ≡ length text.old + 10 }
 {
     let date = civil_day(days as u32);
-    text.push_places(date.year, 4);
+    text.push_four(date.year as u64);
     text.push(b'-');
-    text.push_places(date.month, 2);
+    text.push_two(date.month as u64);
     text.push(b'-');
-    text.push_places(date.day, 2);
+    text.push_two(date.day as u64);
 }
 
 /// Writes a second of a day, as `hh:mm:ss`.
@@ -107,32 +107,9 @@ fn push_time(text: &mut ShortText, second: u64)
     ensures value { text.new ≡ text.old ++ written_time second }
     ensures len { length text.new ≡ length text.old + 8 }
 {
-    text.push_places(second / 3_600, 2);
+    text.push_two(second / 3_600);
     text.push(b':');
-    text.push_places(second / 60 % 60, 2);
+    text.push_two(second / 60 % 60);
     text.push(b':');
-    text.push_places(second % 60, 2);
-}
-
-/// A year, a month and a day.
-#[derive(Clone, Copy)]
-struct CivilDay {
-    year: u64,
-    month: u64,
-    day: u64,
-}
-
-/// The year, month and day that is so many days after 0001-01-01.
-fn civil_day(days: u32) -> CivilDay
-    requires early { days < 3_652_059 }
-    ensures year { result.year ≡ year_at days }
-    ensures month { result.month ≡ month_at days }
-    ensures day { result.day ≡ day_at days }
-{
-    let date = PlainDate::from_days_since_min(days + 3_652_425);
-    CivilDay {
-        year: date.year as u64,
-        month: date.month as u64,
-        day: date.day as u64,
-    }
+    text.push_two(second % 60);
 }

@@ -1,27 +1,42 @@
 //! Numbers as they are written in the input.
-ghost use Rattle.std.specs.Prelude.{◌≡◌, ℕ, ◌+◌, ◌*◌, ◌<◌, ◌≤◌, ◌^◌, ◌==◌, ◌||◌, ◌++◌, ◌≤ℤ◌, ◌-ℤ◌, ◌+ℤ◌, List, [], Some, Ok, length, pos, negsuc, neg_ℤ, IsTrue, IfSome, unsigned_abs};
+ghost use Rattle.std.specs.Prelude.{◌≡◌, ℕ, ◌+◌, ◌*◌, ◌<◌, ◌≤◌, ◌^◌, ◌==◌, ◌||◌, ◌++◌, ◌≤ℤ◌, ◌<ℤ◌, ◌-ℤ◌, ◌+ℤ◌, List, [], Some, Ok, length, pos, negsuc, neg_ℤ, IsTrue, IfSome, unsigned_abs};
 ghost use Rattle.std.specs.Option.{option_map};
 ghost use Rattle.std.specs.List.{list_all};
 ghost use Rattle.std.specs.Char.{is_ascii_digit};
 ghost use Rattle.exact_fraction.specs.Number.{ratio};
 ghost use Rattle.num_text.specs.Fields.{is_end};
-ghost use Rattle.num_text.specs.Numbers.{is_negative, past_sign, signed, point_digits, past_point, exponent_digits, exponent_of, spelling_of, bounded, in_bounds, spelled, number_of};
-ghost use Rattle.num_text.specs.Views.{spelling_now};
+ghost use Rattle.num_text.specs.Numbers.{is_negative, past_sign, signed, point_digits, past_point, exponent_digits, exponent_of, spelling_of, bounded, in_bounds, spelled, number_of, number_in};
+ghost use Rattle.num_text.specs.internal.Views.{spelling_now};
 
 use crate::error::NumberFault;
 use crate::fields::{cut_digits, last_number};
+use crate::narrow::NarrowSignificand;
+use crate::plain::plain_number;
 use crate::significand::{LARGE, Significand};
 use exact_fraction::frac::Frac;
 
 /// 2^63, the least whole number that does not fit.
 const TWO_63: u128 = 9_223_372_036_854_775_808;
 
-/// The number that the text writes: an optional sign; digits with an optional point and optional further digits, or a point and
-/// digits; and optionally `e` or `E`, an optional sign and one to three digits (own). BadNumber exactly where the text is
-/// anything else. TooLarge exactly where it is a number other than 0 whose power of ten is below -18 or above 18, with a
-/// significand that 10 does not divide, or which does not fit. A byte costs one multiplication at most.
-#[tactic(auto, unfolding(crate::specs::Numbers::spelled))]
+/// The number that the text writes: an optional sign; digits with an optional point and optional
+/// further digits, or a point and digits; and optionally `e` or `E`, an optional sign and one to
+/// three digits. BadNumber exactly where the text is anything else. TooLarge exactly where it is a
+/// number other than 0 whose power of ten is below -18 or above 18, with a significand that 10 does
+/// not divide, or which does not fit. A byte costs two multiplications at most, and one where there
+/// is no power of ten and the digits are few.
 pub fn read_number(text: &[u8]) -> Result<Frac, NumberFault>
+    ensures value { result ≡ number_of text.now }
+{
+    match plain_number(text) {
+        Some(number) => Ok(number),
+        None => any_number(text),
+    }
+}
+
+/// The same of any text, with a power of ten or without, and however many digits it has.
+#[tactic(auto, unfolding(crate::specs::Numbers::spelled))]
+#[inline(never)]
+fn any_number(text: &[u8]) -> Result<Frac, NumberFault>
     ensures value { result ≡ number_of text.now }
 {
     let negative = is_negative(text);
@@ -29,6 +44,17 @@ pub fn read_number(text: &[u8]) -> Result<Frac, NumberFault>
         return Err(NumberFault::BadNumber);
     };
     value_of(negative, spelling.whole, spelling.behind, spelling.exponent)
+}
+
+/// The number that the text writes, as `read_number` reads it. None exactly where it is no number,
+/// or one that is too large.
+pub fn number_in(text: &[u8]) -> Option<Frac>
+    ensures value { result ≡ number_in text.now }
+{
+    match read_number(text) {
+        Ok(number) => Some(number),
+        Err(_) => None,
+    }
 }
 
 /// Whether the text begins with a minus.
@@ -42,7 +68,7 @@ pub(crate) fn is_negative(text: &[u8]) -> bool
 }
 
 /// What stands behind the sign of the text, if it begins with one.
-fn past_sign(text: &[u8]) -> &[u8]
+pub(crate) fn past_sign(text: &[u8]) -> &[u8]
     ensures value { result.now ≡ past_sign text.now }
 {
     if text.is_empty() {
@@ -148,7 +174,8 @@ fn exponent_of(text: &[u8]) -> Option<i128>
     exponent_digits(&text[1..])
 }
 
-/// The number that an optional sign and one to three digits write. None where the text is anything else.
+/// The number that an optional sign and one to three digits write. None where the text is anything
+/// else.
 fn exponent_digits(text: &[u8]) -> Option<i128>
     ensures value { result ≡ exponent_digits text.now }
     ensures low { IfSome result (λ exponent. negsuc 999 ≤ℤ exponent) }
@@ -158,7 +185,8 @@ fn exponent_digits(text: &[u8]) -> Option<i128>
     Some(signed(is_negative(text), size as u128))
 }
 
-/// The number that a sign, digits before and behind a point, and an exponent write, if it is in its bounds.
+/// The number that a sign, digits before and behind a point, and an exponent write, if it is in its
+/// bounds. It is computed at 64 bits where the significand has no more.
 fn value_of(
     negative: bool,
     whole: &[u8],
@@ -169,8 +197,37 @@ fn value_of(
     requires digits_behind { IsTrue (list_all is_ascii_digit behind.now) }
     requires low { negsuc 999 ≤ℤ exponent }
     requires high { exponent ≤ℤ pos 1000 }
-    ensures value { result
-        ≡ spelled (Some (record { negative = negative; whole = whole.now; behind = behind.now; exponent = exponent })) }
+    ensures value { result ≡ spelled (Some (record {
+      negative = negative;
+      whole = whole.now;
+      behind = behind.now;
+      exponent = exponent;
+    })) }
+{
+    if let Some(narrow) = NarrowSignificand::of(whole, behind) {
+        let power = power_of(exponent, behind.len(), narrow.zeros as u128);
+        return bounded(negative, narrow.number as u128, power);
+    }
+    long_value(negative, whole, behind, exponent)
+}
+
+/// The same at 128 bits, of digits of any significand.
+fn long_value(
+    negative: bool,
+    whole: &[u8],
+    behind: &[u8],
+    exponent: i128,
+) -> Result<Frac, NumberFault>
+    requires whole_digits { IsTrue (list_all is_ascii_digit whole.now) }
+    requires digits_behind { IsTrue (list_all is_ascii_digit behind.now) }
+    requires low { negsuc 999 ≤ℤ exponent }
+    requires high { exponent ≤ℤ pos 1000 }
+    ensures value { result ≡ spelled (Some (record {
+      negative = negative;
+      whole = whole.now;
+      behind = behind.now;
+      exponent = exponent;
+    })) }
 {
     let front = Significand::of_none().with_digits(whole);
     match front.with_digits(behind) {
@@ -181,7 +238,8 @@ fn value_of(
     }
 }
 
-/// The power of ten of a significand with so many digits behind the point and so many zeros behind it.
+/// The power of ten of a significand with so many digits behind the point and so many zeros behind
+/// it.
 fn power_of(exponent: i128, behind: usize, zeros: u128) -> i128
     requires low { negsuc 999 ≤ℤ exponent }
     requires high { exponent ≤ℤ pos 1000 }
@@ -209,7 +267,7 @@ fn bounded(negative: bool, number: u128, power: i128) -> Result<Frac, NumberFaul
     }
     let places = places_of(power);
     if power < 0 {
-        return in_bounds(negative, number, 10u128.pow(places));
+        return lowered(negative, number, places);
     }
     raised(negative, number, places)
 }
@@ -223,7 +281,28 @@ fn raised(negative: bool, number: u128, power: u32) -> Result<Frac, NumberFault>
     if number >= TWO_63 {
         return Err(NumberFault::TooLarge);
     }
-    in_bounds(negative, number * 10u128.pow(power), 1)
+    lowered(negative, number * 10u128.pow(power), 0)
+}
+
+/// The number `number / 10^places` with its sign, if it fits.
+fn lowered(negative: bool, number: u128, places: u32) -> Result<Frac, NumberFault>
+    requires number_fits { number < 2 ^ 127 }
+    requires few { places ≤ 18 }
+    ensures value { result ≡ in_bounds (ratio (signed negative number) (10 ^ places)) }
+{
+    if number >= TWO_63 {
+        return in_bounds(negative, number, 10u128.pow(places));
+    }
+    decimal(signed(negative, number), places)
+}
+
+/// The number `digits / 10^places`, if it fits.
+fn decimal(digits: i128, places: u32) -> Result<Frac, NumberFault>
+    requires low { neg_ℤ (pos (2 ^ 63)) ≤ℤ digits }
+    requires high { digits <ℤ pos (2 ^ 63) }
+    ensures value { result ≡ in_bounds (ratio digits (10 ^ places)) }
+{
+    Frac::decimal(digits as i64, places).ok_or(NumberFault::TooLarge)
 }
 
 /// The ratio with its sign, if it fits.

@@ -9,8 +9,8 @@ use crate::fields::{cut_digits, number_of, number_up_to, past};
 use crate::ratio::ratio_of;
 use exact_fraction::frac::Frac;
 
-/// The number of digits with or without a point and one to nine decimals. None where the text is anything else, or the number
-/// is more than `most`.
+/// The number of digits with or without a point and one to nine decimals. None where the text is
+/// anything else, or the number is more than `most`.
 #[tactic(auto, unfolding(crate::specs::Pointed::decimal_up_to))]
 pub(crate) fn decimal_up_to(text: &[u8], most: u64) -> Option<Frac>
     requires million { most ≤ 1_000_000 }
@@ -41,8 +41,8 @@ fn pointed_up_to(whole: &[u8], behind: &[u8], most: u64) -> Option<Frac>
     ratio_of(number, scale)
 }
 
-/// The decimals behind whole digits: a point and one to `most` digits. None where anything else stands there, and no digits
-/// where the text ends.
+/// The decimals behind whole digits: a point and one to `most` digits. None where anything else
+/// stands there, and no digits where the text ends.
 #[tactic(auto, unfolding(crate::specs::Pointed::decimals))]
 pub(crate) fn decimals(text: &[u8], most: usize) -> Option<&[u8]>
     ensures value { option_map (λ digits. digits.now) result ≡ decimals most text.now }

@@ -4,7 +4,7 @@ ghost use Rattle.num_text.specs.Written.{places};
 
 use std::marker::Model;
 
-/// A text of at most 41 bytes, which a number or a moment is written as (own).
+/// A text of at most 41 bytes, which a number or a moment is written as.
 #[derive(Debug, Drop)]
 pub struct ShortText {
     bytes: [u8; 41],
@@ -22,7 +22,7 @@ impl Model for ShortText {
 }
 
 impl ShortText {
-    /// The bytes of the text, of which there are at most 41 (own).
+    /// The bytes of the text, of which there are at most 41.
     pub fn as_bytes(&self) -> &[u8]
         ensures value { result.now ≡ self.now }
         ensures bound { length self.now ≤ 41 }
@@ -39,6 +39,16 @@ impl ShortText {
             bytes: [0; 41],
             len: 0,
         }
+    }
+
+    /// The text of one digit.
+    pub(crate) fn of_digit(digit: u8) -> ShortText
+        requires digit { digit < 10 }
+        ensures value { result ≡ decimal digit }
+    {
+        let mut text = ShortText::new();
+        text.push(b'0' + digit);
+        text
     }
 
     /// Writes one more byte.
@@ -62,6 +72,30 @@ impl ShortText {
             return;
         }
         self.push_places(number / 10, count - 1);
+        self.push(b'0' + (number % 10) as u8);
+    }
+
+    /// Writes the last two digits of a number.
+    #[tactic(auto, unfolding(crate::specs::Written::places))]
+    pub(crate) fn push_two(&mut self, number: u64)
+        requires room { length self.old + 2 ≤ 41 }
+        ensures value { self.new ≡ self.old ++ places 2 number }
+        ensures len { length self.new ≡ length self.old + 2 }
+    {
+        self.push(b'0' + (number / 10 % 10) as u8);
+        self.push(b'0' + (number % 10) as u8);
+    }
+
+    /// Writes the last four digits of a number.
+    #[tactic(auto, unfolding(crate::specs::Written::places))]
+    pub(crate) fn push_four(&mut self, number: u64)
+        requires room { length self.old + 4 ≤ 41 }
+        ensures value { self.new ≡ self.old ++ places 4 number }
+        ensures len { length self.new ≡ length self.old + 4 }
+    {
+        self.push(b'0' + (number / 10 / 10 / 10 % 10) as u8);
+        self.push(b'0' + (number / 10 / 10 % 10) as u8);
+        self.push(b'0' + (number / 10 % 10) as u8);
         self.push(b'0' + (number % 10) as u8);
     }
 

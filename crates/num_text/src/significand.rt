@@ -2,16 +2,17 @@
 ghost use Rattle.std.specs.Prelude.{◌≡◌, ℕ, ◌+◌, ◌<◌, ◌≤◌, ◌^◌, List, [], ◌∷◌, ◌++◌, length, IsTrue};
 ghost use Rattle.std.specs.List.{list_all};
 ghost use Rattle.std.specs.Char.{is_ascii_digit};
-ghost use Rattle.num_text.specs.Stands.{IsHeld, StandsFor, zeros_held};
+ghost use Rattle.num_text.specs.internal.Significands.{IsHeld, IsSignificandOf, zeros_held};
 
-/// The least significand that is past the bounds whatever the power of ten: over a denominator of 10^18 or less it does not
-/// fit.
+/// The least significand that is past the bounds whatever the power of ten: over a denominator of
+/// 10^18 or less it does not fit.
 pub(crate) const LARGE: u128 = 10_000_000_000_000_000_000_000_000_000_000_000_000;
 
 /// The significand of digits.
 #[derive(Clone, Copy)]
 pub(crate) enum Significand {
-    /// The number that the digits write without the zeros at their end, and how many zeros these are.
+    /// The number that the digits write without the zeros at their end, and how many zeros these
+    /// are.
     Held(u128, u128),
     /// That number is 10^37 or more.
     Large,
@@ -20,7 +21,7 @@ pub(crate) enum Significand {
 impl Significand {
     /// The significand of no digits.
     pub(crate) fn of_none() -> Significand
-        ensures stands { StandsFor result [] }
+        ensures stands { IsSignificandOf result [] }
         ensures zeros { zeros_held result ≡ 0 }
     {
         Significand::Held(0, 0)
@@ -30,7 +31,8 @@ impl Significand {
     pub(crate) fn with_digits(self, digits: &[u8]) -> Significand
         requires digits_alone { IsTrue (list_all is_ascii_digit digits.now) }
         requires room { zeros_held self + length digits.now < 2 ^ 100 }
-        ensures stands { (front : List ℕ) → StandsFor self front → StandsFor result (front ++ digits.now) }
+        ensures stands { (front : List ℕ) → IsSignificandOf self front
+            → IsSignificandOf result (front ++ digits.now) }
         ensures zeros { zeros_held result ≤ zeros_held self + length digits.now }
     {
         let mut so_far = self;
@@ -44,7 +46,8 @@ impl Significand {
     fn with_digit(self, digit: u8) -> Significand
         requires is_digit { IsTrue (is_ascii_digit digit) }
         requires room { zeros_held self < 2 ^ 100 }
-        ensures stands { (front : List ℕ) → StandsFor self front → StandsFor result (front ++ digit ∷ []) }
+        ensures stands { (front : List ℕ) → IsSignificandOf self front
+            → IsSignificandOf result (front ++ digit ∷ []) }
         ensures zeros { zeros_held result ≤ zeros_held self + 1 }
     {
         match self {
@@ -63,7 +66,8 @@ impl Significand {
 fn grown(number: u128, zeros: u128, digit: u8) -> Significand
     requires least { 48 < digit }
     requires most { digit ≤ 57 }
-    ensures stands { (front : List ℕ) → IsHeld number zeros front → StandsFor result (front ++ digit ∷ []) }
+    ensures stands { (front : List ℕ) → IsHeld number zeros front
+        → IsSignificandOf result (front ++ digit ∷ []) }
     ensures zeros { zeros_held result ≡ 0 }
 {
     if number == 0 {

@@ -12,7 +12,8 @@ use crate::numbers::{is_negative, signed};
 use crate::pointed::decimals;
 use exact_fraction::frac::Frac;
 
-/// The number that the text spells as a decimal or as a fraction, with zeros too many or without. None where it spells none.
+/// The number that the text spells as a decimal or as a fraction, with zeros too many or without.
+/// None where it spells none.
 #[tactic(auto, unfolding(crate::specs::Values::spelled_value))]
 pub(crate) fn spelled_value(text: &[u8]) -> Option<Frac>
     ensures value { result ≡ spelled_value text.now }

@@ -8,8 +8,8 @@ use crate::pointed::decimal_up_to;
 use crate::ratio::ratio_of;
 use exact_fraction::frac::Frac;
 
-/// A step in seconds, above 0 and at most a day: digits with or without a point and one to nine decimals (own). None exactly
-/// where the text is anything else.
+/// A step in seconds, above 0 and at most a day: digits with or without a point and one to nine
+/// decimals. None exactly where the text is anything else.
 #[tactic(auto, unfolding(crate::specs::Steps::step_of))]
 pub fn read_step(text: &[u8]) -> Option<Frac>
     ensures value { result ≡ step_of text.now }
@@ -19,9 +19,10 @@ pub fn read_step(text: &[u8]) -> Option<Frac>
     positive(step)
 }
 
-/// A routing step in seconds, above 0 and at most a day: digits with or without a point and one to nine decimals, or `h:mm` or
-/// `h:mm:ss` with one to seven digits of hours and with minutes and seconds below 60 (own; the forms are those of the SWMM 5.2
-/// manual, [OPTIONS]). None exactly where the text is anything else.
+/// A routing step in seconds, above 0 and at most a day: digits with or without a point and one to
+/// nine decimals, or `h:mm` or `h:mm:ss` with one to seven digits of hours and with minutes and
+/// seconds below 60 (the forms are those of the SWMM 5.2 manual, [OPTIONS]). None exactly where the
+/// text is anything else.
 #[tactic(auto, unfolding(crate::specs::Steps::routing_step_of))]
 pub fn read_routing_step(text: &[u8]) -> Option<Frac>
     ensures value { result ≡ routing_step_of text.now }

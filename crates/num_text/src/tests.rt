@@ -1,10 +1,11 @@
 //! Values that were worked out by hand.
+use crate::civil_days::civil_day;
 use crate::clocks::{read_clock, read_day_time};
 use crate::counts::read_count;
 use crate::dates::{read_date, read_day_of_year};
 use crate::error::NumberFault;
 use crate::moments::{moment_text, read_moment};
-use crate::numbers::read_number;
+use crate::numbers::{number_in, read_number};
 use crate::steps::{read_routing_step, read_step};
 use crate::times::{read_hours, read_time};
 use crate::values::{read_value, value_text};
@@ -21,6 +22,9 @@ fn reads_numbers(rt: HostRuntime) {
     assert!(rt; read_number(b"1e-19") == Err(NumberFault::TooLarge));
     assert!(rt; read_number(b"1e19") == Err(NumberFault::TooLarge));
     assert!(rt; read_number(b"1..2") == Err(NumberFault::BadNumber));
+    assert!(rt; read_number(b"1,2") == Err(NumberFault::BadNumber));
+    assert!(rt; number_in(b"1.5") == Frac::make(3, 2));
+    assert!(rt; number_in(b"1e19").is_none());
     assert!(rt; read_time(b"0:00:36") == Frac::make(1, 100));
     assert!(rt; read_time(b"1000000.1").is_none());
 }
@@ -29,6 +33,11 @@ fn reads_numbers(rt: HostRuntime) {
 fn reads_days(rt: HostRuntime) {
     assert!(rt; read_date(b"6/15/2001") == Some(11_488));
     assert!(rt; read_date(b"2-29-2001").is_none());
+    let day = civil_day(730_650);
+    assert!(rt; day.year == 2001);
+    assert!(rt; day.month == 6);
+    assert!(rt; day.day == 15);
+    assert!(rt; day.place == 166);
     assert!(rt; read_day_of_year(b"12/31") == Some(365));
     assert!(rt; read_day_of_year(b"367").is_none());
 }

@@ -12,15 +12,19 @@ use exact_fraction::frac::Frac;
 /// How many units of 10^-18 are 1.
 const UNITS: u64 = 1_000_000_000_000_000_000;
 
-/// The written value of a number (own). Where the denominator divides 10^18: a minus if it is negative, the whole part without
-/// leading zeros, and, where the number is not whole, a point and the decimals without zeros at their end. Else the
-/// numerator, a slash and the denominator in lowest terms.
+/// The written value of a number. Where the denominator divides 10^18: a minus if it is negative,
+/// the whole part without leading zeros, and, where the number is not whole, a point and the
+/// decimals without zeros at their end. Else the numerator, a slash and the denominator in lowest
+/// terms.
 #[tactic(auto, unfolding(crate::specs::Values::written_value))]
 pub fn value_text(q: Frac) -> ShortText
     ensures value { result ≡ written_value q }
 {
     let numerator = q.num();
     let denominator = q.den();
+    if denominator == 1 && 0 <= numerator && numerator < 10 {
+        return ShortText::of_digit(digit_of(numerator));
+    }
     let mut text = sign_text(numerator);
     push_size(
         &mut text,
@@ -30,7 +34,17 @@ pub fn value_text(q: Frac) -> ShortText
     text
 }
 
-/// The number whose written value the text is. None exactly where it is the written value of none (own).
+/// A number from 0 to 9 as a digit.
+fn digit_of(number: i64) -> u8
+    requires low { pos 0 ≤ℤ number }
+    requires high { number <ℤ pos 10 }
+    ensures value { result ≡ unsigned_abs number }
+    ensures digit { result < 10 }
+{
+    number.unsigned_abs() as u8
+}
+
+/// The number whose written value the text is. None exactly where it is the written value of none.
 pub fn read_value(text: &[u8]) -> Option<Frac>
     ensures written { IfSome result (λ q. written_value q ≡ text.now) }
     ensures held { IfSome result (λ q. IsNumber q) }
@@ -92,7 +106,8 @@ fn push_units(text: &mut ShortText, units: u128)
     push_behind(text, (units % UNITS as u128) as u64);
 }
 
-/// Writes a point and 18 decimals without the zeros at their end, and nothing where they are all zero.
+/// Writes a point and 18 decimals without the zeros at their end, and nothing where they are all
+/// zero.
 fn push_behind(text: &mut ShortText, number: u64)
     requires room { length text.old ≤ 20 }
     requires few { number < 10 ^ 18 }

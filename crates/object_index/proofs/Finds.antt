@@ -3,7 +3,7 @@ use Rattle.std.proofs.Common.{◌≡◌, ℕ, ◌+◌, Bool, true, false, List, 
 use Rattle.std.specs.Prelude.{if◌then◌else◌}
 use Rattle.std.specs.List.{list_any}
 use Rattle.rule_types.specs.Finding.{Nothing, At, only, places_from}
-use Rattle.object_index.specs.Kept.{first_from, with_one}
+use Rattle.object_index.specs.internal.Indexed.{first_from, with_one}
 
 pub only-push : (xs : List ℕ) (y : ℕ) → only (xs ++ y ∷ []) ≡ with_one y (only xs)
 only-push [] y = refl

@@ -1,2 +1,3 @@
 pub mod Finds
-pub mod Entries
+pub mod Indexing
+pub mod Spaces

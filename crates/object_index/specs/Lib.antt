@@ -1,4 +1,7 @@
-pub mod Examples
-pub mod Holding
-pub mod Kept
+-- What the contracts of this crate speak of: names and what they find, and the objects of a
+-- network.
+pub mod Names
 pub mod Objects
+pub mod Holding
+pub mod examples
+pub mod internal

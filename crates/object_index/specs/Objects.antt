@@ -1,5 +1,6 @@
 -- The named objects of a network, and what a word and a name give.
-use Rattle.std.specs.Prelude.{◌≡◌, ℕ, ◌+◌, Bool, true, false, List, [], ◌∷◌, ◌++◌, Option, None, Some, Result, Ok, Err, if◌then◌else◌, map, length, ⊤, slice_get}
+use Rattle.std.specs.Prelude.{◌≡◌, ℕ, ◌+◌, Bool, true, false, List, [], ◌∷◌, ◌++◌, Option}
+use Rattle.std.specs.Prelude.{None, Some, Result, Ok, Err, if◌then◌else◌, map, length, ⊤, slice_get}
 use Rattle.std.specs.List.{list_any}
 use Rattle.std.specs.Str.{bytes_eq}
 use Rattle.rule_types.specs.Finding.{Found, Nothing, At, Several, finds}
@@ -11,14 +12,15 @@ use Rattle.rule_types.specs.declared.object.ObjectKind.TheVariants as kinds
 use Rattle.rule_types.specs.declared.object.ObjectWord.{ObjectWord}
 use Rattle.rule_types.specs.declared.object.ObjectWord.TheVariants as words
 use Rattle.object_index.specs.declared.unresolved.Unresolved.{Unresolved}
-use Rattle.object_index.specs.declared.unresolved.Unresolved.TheVariants.{Unknown, Ambiguous, WrongKind, NoMemory}
+use Rattle.object_index.specs.declared.unresolved.Unresolved.TheVariants.{Unknown, Ambiguous}
+use Rattle.object_index.specs.declared.unresolved.Unresolved.TheVariants.{WrongKind, NoMemory}
 
--- an object: its name and its kind (own)
+-- an object: its name and its kind
 pub record Object : Type 0 where
   pub name : List ℕ
   pub kind : ObjectKind
 
--- the objects of the three spaces of names, each in the order in which they were added (own)
+-- the objects of the three spaces of names, each in the order in which they were added
 pub record Objects : Type 0 where
   pub nodes : List Object
   pub links : List Object
@@ -42,7 +44,7 @@ object_count objects = length objects.nodes + length objects.links + length obje
 abbrev pub object_at : Objects → ObjectNo → Option Object
 object_at objects object = slice_get (in_space objects object.space) object.index
 
--- the space that an object's name stands in: nodes, links and gages each have one (own)
+-- the space of an object's name: nodes, links and gages each have one
 abbrev pub kind_space : ObjectKind → Space
 kind_space kinds.Gage = Gages
 kind_space kinds.Node = Nodes
@@ -52,7 +54,7 @@ kind_space kinds.Orifice = Links
 kind_space kinds.Weir = Links
 kind_space kinds.Outlet = Links
 
--- the space that a word of a control line looks in (the words: SWMM 5.2 manual, [CONTROLS]; the spaces: own)
+-- the space that a word of a control line looks in (the words: SWMM 5.2 manual, [CONTROLS])
 abbrev pub word_space : ObjectWord → Space
 word_space words.Gage = Gages
 word_space words.Node = Nodes
@@ -73,8 +75,8 @@ is_link kinds.Orifice = true
 is_link kinds.Weir = true
 is_link kinds.Outlet = true
 
--- whether a word accepts an object of a kind: LINK every link, and each other word its own kind (the words and which kinds
--- they accept: SWMM 5.2 manual, [CONTROLS])
+-- whether a word accepts an object of a kind: LINK every link, and each other word its own kind
+-- (the words and which kinds they accept: SWMM 5.2 manual, [CONTROLS])
 abbrev pub accepts : ObjectWord → ObjectKind → Bool
 accepts words.Link kind = is_link kind
 accepts words.Gage kinds.Gage = true
@@ -100,17 +102,21 @@ and_object objects kind name = objects ++ record { name = name; kind = kind } �
 
 -- the objects with one more, at the end of a space
 abbrev pub with_object_in : Space → Objects → ObjectKind → List ℕ → Objects
-with_object_in Nodes objects kind name = record objects { nodes = and_object objects.nodes kind name }
-with_object_in Links objects kind name = record objects { links = and_object objects.links kind name }
-with_object_in Gages objects kind name = record objects { gages = and_object objects.gages kind name }
+with_object_in Nodes objects kind name =
+    record objects { nodes = and_object objects.nodes kind name }
+with_object_in Links objects kind name =
+    record objects { links = and_object objects.links kind name }
+with_object_in Gages objects kind name =
+    record objects { gages = and_object objects.gages kind name }
 
 -- the objects with one more, at the end of the space of its kind
 abbrev pub with_object : Objects → ObjectKind → List ℕ → Objects
 with_object objects kind name = with_object_in (kind_space kind) objects kind name
 
--- the number of the next object of a kind: the number of objects in its space (own)
+-- the number of the next object of a kind: the number of objects in its space
 abbrev pub next_number : Objects → ObjectKind → ObjectNo
-next_number objects kind = record { space = kind_space kind; index = length (in_space objects (kind_space kind)) }
+next_number objects kind =
+    record { space = kind_space kind; index = length (in_space objects (kind_space kind)) }
 
 -- whether a word accepts the object at a place, if there is one
 abbrev pub accepts_at : ObjectWord → Option Object → Bool
@@ -122,15 +128,19 @@ abbrev pub resolved : ObjectWord → List Object → Found → Result ObjectNo U
 resolved word objects Nothing = Err Unknown
 resolved word objects Several = Err Ambiguous
 resolved word objects (At index) =
-    if accepts_at word (slice_get objects index) then Ok (record { space = word_space word; index = index }) else Err WrongKind
+    if accepts_at word (slice_get objects index)
+    then Ok (record { space = word_space word; index = index })
+    else Err WrongKind
 
--- what a word and a name give: the object of the word's space that the name finds, by its bytes and failing that with case
--- ignored, if the word accepts its kind; the kind does not narrow the search (own)
+-- what a word and a name give: the object of the word's space that the name finds, by its bytes
+-- and failing that with case ignored, if the word accepts its kind; the kind does not narrow the
+-- search
 abbrev pub resolution : Objects → ObjectWord → List ℕ → Result ObjectNo Unresolved
 resolution objects word name =
-    resolved word (in_space objects (word_space word)) (finds (names_of (in_space objects (word_space word))) name)
+    resolved word (in_space objects (word_space word))
+    (finds (names_of (in_space objects (word_space word))) name)
 
--- an answer is the one that is due, unless memory is wanting
+-- an answer is the one that is due, unless there is no memory
 abbrev pub Answers : Result ObjectNo Unresolved → Result ObjectNo Unresolved → Type 0
 Answers (Ok object) due = Ok object ≡ due
 Answers (Err Unknown) due = Err Unknown ≡ due

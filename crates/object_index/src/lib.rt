@@ -1,14 +1,18 @@
-//! The named objects of a network, found by name: by the same bytes, and failing that with the case of ASCII letters
-//! ignored. The look-up, the spaces of names and the numbers of objects are this project's own.
+//! Names, found by the same bytes, and failing that with the case of ASCII letters ignored; and the
+//! named objects of a network.
 #![tactic(auto)]
 
 mod found;
 mod index;
 pub mod laws;
+mod name_table;
+mod place;
 mod space_names;
 #[cfg(test)]
 mod tests;
 mod unresolved;
 
+pub use found::Found;
 pub use index::ObjectIndex;
+pub use name_table::NameTable;
 pub use unresolved::Unresolved;

@@ -1,56 +1,55 @@
-//! The names of one space.
-ghost use Rattle.std.specs.Prelude.{◌≡◌, [], ◌<◌, ◌≤◌, ◌↔◌, IfOk, OnOk, OnErr, IsTrue, Err, false, option_map, slice_get, length};
-ghost use Rattle.std.specs.Str.{bytes_eq};
-ghost use Rattle.std.specs.Map.{lookup};
+//! The objects of one space.
+ghost use Rattle.std.specs.Prelude.{◌≡◌, [], ◌<◌, ◌≤◌, ◌^◌, ◌↔◌, IfOk, OnOk, OnErr, IsTrue};
+ghost use Rattle.std.specs.Prelude.{Err, false, option_map, slice_get, length};
 ghost use Rattle.rule_types.specs.Finding.{finds};
 ghost use Rattle.rule_types.specs.declared.refusal.AddFault.TheVariants.{Duplicate};
-ghost use Rattle.object_index.specs.Objects.{accepts as accepts_kind, accepts_at, is_named, names_of, and_object};
-ghost use Rattle.object_index.specs.Kept.{place_found, entry_found, with_one};
+ghost use Rattle.object_index.specs.Names.{found_by};
+ghost use Rattle.object_index.specs.Objects.{accepts as accepts_kind, accepts_at, is_named};
+ghost use Rattle.object_index.specs.Objects.{names_of, and_object};
 
 use crate::found::Found;
+use crate::name_table::NameTable;
 use byte_edge::NoMemory;
-use indexmap::IndexMap;
 use rule_types::{AddFault, ObjectKind, ObjectWord};
 use std::alloc::Global;
 use std::marker::Model;
 
-/// The objects of one space, by name: a map of the exact names to the kinds, in the order in which they were added, and a
-/// map of the names in lower case to what each finds.
+/// The objects of one space: their names, and the kind of each.
 #[derive(Drop)]
 pub(crate) struct SpaceNames {
-    objects: IndexMap<Vec<u8>, ObjectKind>,
-    caseless: IndexMap<Vec<u8>, Found>,
+    names: NameTable,
+    kinds: Vec<ObjectKind>,
 }
 
 impl Model for SpaceNames {
-    ghost use Rattle.std.specs.Prelude.{List};
-    ghost use Rattle.object_index.specs.Objects.{Object, names_of};
-    ghost use Rattle.object_index.specs.Kept.{objects_in, IsKept};
+    ghost use Rattle.std.specs.Prelude.{◌≡◌, List, length};
+    ghost use Rattle.object_index.specs.Objects.{Object};
+    ghost use Rattle.object_index.specs.internal.Objects.{objects_of};
 
     ghost Value = { List Object };
 
-    ghost view = { λ held. objects_in held.objects.entries };
+    ghost view = { λ held. objects_of held.names held.kinds.items };
 
-    ghost invariant = { λ held. IsKept (names_of (objects_in held.objects.entries)) held.caseless.entries };
+    ghost invariant = { λ held. length held.kinds.items ≡ length held.names };
 }
 
 impl SpaceNames {
-    /// No names.
+    /// No objects.
     pub(crate) fn new(alloc: Global) -> SpaceNames
         ensures { result ≡ [] }
     {
         SpaceNames {
-            objects: IndexMap::new(alloc),
-            caseless: IndexMap::new(alloc),
+            names: NameTable::new(alloc),
+            kinds: Vec::new(alloc),
         }
     }
 
     /// Adds an object, and returns its number.
     pub(crate) fn add(&mut self, kind: ObjectKind, name: &[u8]) -> Result<u32, AddFault>
-        requires few { length self.old < 65_536 }
+        requires few { length self.old < 2 ^ 32 }
         ensures number { IfOk result (λ number. number ≡ length self.old) }
         ensures added { OnOk result (self.new ≡ and_object self.old kind name.now) }
-        ensures kept { OnErr result (self.new ≡ self.old) }
+        ensures unchanged { OnErr result (self.new ≡ self.old) }
         ensures duplicate { (result ≡ Err Duplicate) ↔ IsTrue (is_named name.now self.old) }
     {
         if self.contains(name) {
@@ -63,106 +62,81 @@ impl SpaceNames {
     }
 
     /// Whether an object has these very bytes as its name.
-    fn contains(&self, name: &[u8]) -> bool
+    pub(crate) fn contains(&self, name: &[u8]) -> bool
         ensures { result ≡ is_named name.now self.now }
     {
-        self.objects.contains_key(name)
+        self.names.contains(name)
     }
 
     /// Adds an object of a new name, and returns its number.
     fn add_new(&mut self, kind: ObjectKind, name: &[u8]) -> Result<u32, NoMemory>
-        requires few { length self.old < 65_536 }
+        requires few { length self.old < 2 ^ 32 }
         requires absent { is_named name.now self.old ≡ false }
         ensures number { IfOk result (λ number. number ≡ length self.old) }
         ensures added { OnOk result (self.new ≡ and_object self.old kind name.now) }
-        ensures kept { OnErr result (self.new ≡ self.old) }
+        ensures unchanged { OnErr result (self.new ≡ self.old) }
     {
-        let alloc = *self.objects.allocator();
-        let Ok(copy) = Vec::from_slice(alloc, name) else {
+        let Ok(()) = self.kinds.push(kind) else {
             return Err(NoMemory);
         };
-        let Ok(folded) = name.to_ascii_lowercase(alloc) else {
-            return Err(NoMemory);
-        };
-        let Ok(()) = self.caseless.reserve(1) else {
-            return Err(NoMemory);
-        };
-        let number = self.objects.len() as u32;
-        let place = place_after(&self.caseless, folded.as_slice(), number);
-        let Ok(_) = self.objects.insert(copy, kind) else {
-            return Err(NoMemory);
-        };
-        let Ok(_) = self.caseless.insert(folded, place) else {
-            return Err(NoMemory);
-        };
-        Ok(number)
+        match self.names.add_new(name) {
+            Ok(number) => Ok(number),
+            Err(_) => {
+                self.kinds.pop();
+                Err(NoMemory)
+            }
+        }
     }
 
     /// What a name finds.
     pub(crate) fn find(&self, alloc: Global, name: &[u8]) -> Result<Found, NoMemory>
-        ensures { IfOk result (λ found. place_found found ≡ finds (names_of self.now) name.now) }
+        ensures { IfOk result (λ found. found_by found ≡ finds (names_of self.now) name.now) }
     {
-        if let Some(place) = self.objects.get_index_of(name) {
-            return Ok(Found::At(place as u32));
-        }
-        let Ok(folded) = name.to_ascii_lowercase(alloc) else {
-            return Err(NoMemory);
-        };
-        match self.caseless.get(folded.as_slice()) {
-            Some(found) => Ok(*found),
-            None => Ok(Found::Nothing),
-        }
+        let found = self.names.find(alloc, name)?;
+        Ok(found)
     }
 
     /// Whether a word accepts the object of a number.
     pub(crate) fn is_accepted(&self, word: ObjectWord, number: u32) -> bool
         ensures { result ≡ accepts_at word (slice_get self.now number) }
     {
-        match self.objects.get_index(number as usize) {
-            Some((_, kind)) => accepts(word, *kind),
+        match self.kind(number) {
+            Some(kind) => accepts(word, kind),
             None => false,
         }
     }
 
-    /// How many objects there are: at most 65,536.
+    /// How many objects there are: at most 2^32.
     pub(crate) fn len(&self) -> usize
         ensures value { result ≡ length self.now }
-        ensures few { result ≤ 65_536 }
+        ensures few { result ≤ 2 ^ 32 }
     {
-        self.objects.len()
+        self.names.len()
     }
 
     /// The kind of a number.
     pub(crate) fn kind(&self, number: u32) -> Option<ObjectKind>
         ensures { result ≡ option_map (λ held. held.kind) (slice_get self.now number) }
     {
-        match self.objects.get_index(number as usize) {
-            Some((_, kind)) => Some(*kind),
-            None => None,
-        }
+        kind_at(self.kinds.as_slice(), number)
     }
 
     /// The name of a number.
     pub(crate) fn name(&self, number: u32) -> Option<&[u8]>
-        ensures { option_map (λ name. name.now) result ≡ option_map (λ held. held.name) (slice_get self.now number) }
+        ensures { option_map (λ name. name.now) result
+            ≡ option_map (λ held. held.name) (slice_get self.now number) }
     {
-        match self.objects.get_index(number as usize) {
-            Some((name, _)) => Some(name.as_slice()),
-            None => None,
-        }
+        self.names.name(number)
     }
 }
 
-/// What a name in lower case finds once one more such name is at the end.
-fn place_after(caseless: &IndexMap<Vec<u8>, Found>, folded: &[u8], number: u32) -> Found
-    ensures { place_found result ≡ with_one number (entry_found (lookup (λ k. bytes_eq folded.now k.items) caseless.now.entries)) }
+/// The kind at a place of some kinds.
+fn kind_at(kinds: &[ObjectKind], number: u32) -> Option<ObjectKind>
+    ensures { result ≡ slice_get kinds.now number }
 {
-    match caseless.get(folded) {
-        None => Found::At(number),
-        Some(found) => match *found {
-            Found::Nothing => Found::At(number),
-            _ => Found::Several,
-        },
+    match kinds.get(number as usize) {
+        Some(kind) => Some(*kind),
+        None => None,
     }
 }
 

@@ -1,5 +1,5 @@
 //! An index with names that differ in case alone.
-use crate::{ObjectIndex, Unresolved};
+use crate::{Found, NameTable, ObjectIndex, Unresolved};
 use rule_types::{AddFault, ObjectKind, ObjectNo, ObjectWord, Space};
 use std::test::Fail;
 
@@ -33,5 +33,19 @@ fn finds_without_case(rt: HostRuntime) -> Result<(), Fail> {
     assert_eq!(rt; several, Err(Unresolved::Ambiguous));
     let none = index.resolve(rt.alloc(), ObjectWord::Node, b"Pa");
     assert_eq!(rt; none, Err(Unresolved::Unknown));
+    Ok(())
+}
+
+#[test]
+fn finds_names_in_a_table(rt: HostRuntime) -> Result<(), Fail> {
+    let mut table = NameTable::new(rt.alloc());
+    table.add(b"Ca")?;
+    table.add(b"cA")?;
+    assert_eq!(rt; table.add(b"Ca"), Err(AddFault::Duplicate));
+    assert_eq!(rt; table.position(b"cA"), Some(1));
+    assert_eq!(rt; table.find(rt.alloc(), b"CA")?, Found::Several);
+    assert_eq!(rt; table.find(rt.alloc(), b"Ca")?, Found::At(0));
+    assert_eq!(rt; table.name(1), Some(b"cA".as_slice()));
+    assert_eq!(rt; table.len(), 2);
     Ok(())
 }

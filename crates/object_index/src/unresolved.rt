@@ -1,7 +1,7 @@
 //! Why a name is not resolved.
 ghost use Rattle.std.specs.Prelude.{◌≡◌};
 
-/// Why a word and a name give no object (own).
+/// Why a word and a name give no object.
 #[derive(Clone, Copy, Debug, PartialEq, Eq)]
 pub enum Unresolved {
     /// The space has no such name.
@@ -10,5 +10,6 @@ pub enum Unresolved {
     Ambiguous,
     /// The object is of a kind that the word does not accept.
     WrongKind,
+    /// There was no memory for the look-up.
     NoMemory,
 }

@@ -6,12 +6,12 @@ use Rattle.exact_fraction.specs.Number.{Rational, last_remainder, gcd, cancelled
 use Rattle.exact_fraction.specs.Order.{◌<ℚ◌, ◌=ℚ◌}
 use Rattle.exact_fraction.specs.Checked.{made, fitting, is_zero}
 use Rattle.exact_fraction.specs.declared.error.Overflow.{Overflow}
-use Rattle.exact_fraction.proofs.Cited.{tests-is_zero, order_steps}
+use Rattle.exact_fraction.proofs.PublicLaws.{tests-is_zero, order_steps}
 use Rattle.rule_types.specs.declared.action.PidSet.{PidSet}
 use Rattle.rule_types.specs.declared.action.PidMemory.{PidMemory}
 use Rattle.rule_meaning.specs.Pid.{IsPidValue, Stepped, pid_step}
 use Rattle.rule_meaning.specs.Worth.{value_stepped}
-use Rattle.rule_meaning.proofs.Cited.{values-pids}
+use Rattle.rule_meaning.proofs.PublicLaws.{values-pids}
 
 -- two numbers are made
 pub two_made : made (pos 2) (pos 1) ≡ Some (whole (pos 2))

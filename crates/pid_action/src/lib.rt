@@ -9,19 +9,21 @@ ghost use Rattle.exact_fraction.specs.Checked.{checked, is_zero};
 ghost use Rattle.rule_meaning.specs.Formula.{size_of};
 ghost use Rattle.rule_meaning.specs.Worth.{value_stepped};
 ghost use Rattle.rule_meaning.specs.History.{memory_left};
-ghost use Rattle.rule_meaning.specs.Pid.{is_tiny, relative_error, error_of, unstuck, integral_part, derivative_part, change_of, bounded, IsPidValue, pid_step};
+ghost use Rattle.rule_meaning.specs.Pid.{is_tiny, relative_error, error_of, unstuck, integral_part};
+ghost use Rattle.rule_meaning.specs.Pid.{derivative_part, change_of, bounded, IsPidValue, pid_step};
 
 use exact_fraction::error::Overflow;
 use exact_fraction::frac::Frac;
 use exact_fraction::relation::Relation;
 use rule_types::{PidMemory, PidSet};
 
-/// One step of a PID action on a link with the target `old`, whose controller is `x`, `minutes` after the step before: the
-/// new value of the link, with nine decimals, and the errors in `memory` moved on by one.
+/// One step of a PID action on a link with the target `old`, whose controller is `x`, `minutes`
+/// after the step before: the new value of the link, with nine decimals, and the errors in `memory`
+/// moved on by one.
 ///
-/// Overflow where a result on the way does not fit; the errors then stay. A step is about 20 operations on numbers, and
-/// allocates nothing (SWMM 5.2 manual, modulated controls; rounding, limits and what must fit: own).
-#[tactic(auto, using(crate::proofs::Steps::above_divides), unfolding(rule_meaning::specs::Pid::pid_step))]
+/// Overflow where a result on the way does not fit; the errors then stay. A step is about 20
+/// operations on numbers, and allocates nothing (SWMM 5.2 manual, modulated controls).
+#[tactic(auto, using(crate::proofs::Steps::above_divides), unfolding(rule_meaning::specs::Pid::pid_step),)]
 pub fn pid_step(
     set: PidSet,
     set_point: Frac,
@@ -33,7 +35,8 @@ pub fn pid_step(
 ) -> Result<Frac, Overflow>
     requires positive { zero <ℚ minutes }
     ensures value { result ≡ value_stepped (pid_step set set_point x old minutes pump memory.old) }
-    ensures memory { memory.new ≡ memory_left memory.old (Some (pid_step set set_point x old minutes pump memory.old)) }
+    ensures memory { memory.new
+        ≡ memory_left memory.old (Some (pid_step set set_point x old minutes pump memory.old)) }
 
     ensures number { IfOk result IsNumber }
     ensures bounds { IfOk result (IsPidValue pump) }
@@ -49,7 +52,8 @@ pub fn pid_step(
     Ok(bounded(pump, rounded))
 }
 
-/// The error of a controller `x`: 0 at the set point, -1 where the set point is 0, else the relative error.
+/// The error of a controller `x`: 0 at the set point, -1 where the set point is 0, else the
+/// relative error.
 #[tactic(auto, unfolding(rule_meaning::specs::Pid::error_of))]
 fn error_of(set_point: Frac, x: Frac) -> Result<Frac, Overflow>
     ensures value { result ≡ error_of set_point x }
@@ -117,7 +121,8 @@ fn derivative_part(
     quotient(product, minutes)
 }
 
-/// The change of the setting: the gain times the proportional, integral and derivative parts, and 0 where that is small.
+/// The change of the setting: the gain times the proportional, integral and derivative parts, and 0
+/// where that is small.
 #[tactic(auto, unfolding(rule_meaning::specs::Pid::change_of))]
 fn change_of(set: PidSet, error: Frac, memory: PidMemory, minutes: Frac) -> Result<Frac, Overflow>
     requires divides { is_zero minutes ≡ false }
@@ -172,7 +177,7 @@ fn is_zero(q: Frac) -> bool
 }
 
 /// The quotient by a number that is not 0.
-#[tactic(auto, unfolding(exact_fraction::specs::Checked::checked_quotient, exact_fraction::specs::Checked::checked))]
+#[tactic(auto, unfolding(exact_fraction::specs::Checked::checked_quotient, exact_fraction::specs::Checked::checked),)]
 fn quotient(p: Frac, q: Frac) -> Result<Frac, Overflow>
     requires divides { is_zero q ≡ false }
     ensures value { result ≡ checked (quotient_of p q) }

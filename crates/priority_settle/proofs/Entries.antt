@@ -13,7 +13,8 @@ use Rattle.rule_types.specs.declared.action.Action.{Action}
 use Rattle.rule_types.specs.declared.action.ActionAt.{ActionAt}
 use Rattle.rule_types.specs.declared.rule.Rule.{Rule}
 use Rattle.rule_meaning.specs.Settled.{action_at, acts_on, is_on, settled_on, settled, as_list}
-use Rattle.priority_settle.specs.Firsts.{first_of, settled_each}
+use Rattle.priority_settle.specs.internal.Firsts.{first_of}
+use Rattle.priority_settle.specs.Settling.{settled_each}
 use Rattle.priority_settle.proofs.OneMore.{one_more_off, one_more_on}
 
 -- entries that stay, and one that is written

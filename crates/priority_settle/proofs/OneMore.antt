@@ -1,34 +1,45 @@
 -- What is settled once one more pair is listed.
-use Rattle.std.proofs.Common.{◌≡◌, ℕ, if◌then◌else◌, Bool, true, false, not, ◌&&◌, ◌||◌, ◌==◌, nat_lt, Option, Some, None, List, [], ◌∷◌, ◌++◌, inl, inr, refl, sym, ap, ◌∙◌, arith}
+use Rattle.std.proofs.Common.{◌≡◌, ℕ, if◌then◌else◌, Bool, true, false, not, ◌&&◌, ◌||◌, ◌==◌, nat_lt, Option, Some, None, List, [], ◌∷◌, ◌++◌, ◌⊎◌, inl, inr, ⊎_elim, refl, sym, ap, subst, ◌∙◌, arith}
 use Rattle.std.proofs.lemmas.Bool.Decides.{nat_tests}
 use Rattle.std.proofs.lemmas.List.Folds.{find-append, list_all-append}
 use Rattle.std.specs.Option.{option_or}
-use Rattle.std.specs.List.{list_all, find}
+use Rattle.std.specs.List.{list_all, find, Contains}
 use Rattle.rule_types.specs.declared.action.ActionAt.{ActionAt}
 use Rattle.rule_types.specs.declared.rule.Rule.{Rule}
 use Rattle.rule_types.specs.Ranks.{outranks}
-use Rattle.rule_meaning.specs.Settled.{IsIn, is_on, beats, priority_at, IsSettled, is_unbeaten, is_settled, settled_on}
-use Rattle.rule_meaning.proofs.Cited.{settling-at_least_one, settling-none_given}
-use Rattle.priority_settle.specs.Firsts.{first_of}
+use Rattle.rule_meaning.specs.Settled.{is_on, beats, priority_at, IsSettled, is_unbeaten, is_settled, settled_on}
+use Rattle.rule_meaning.proofs.PublicLaws.{members-first, members-later, members-cases}
+use Rattle.rule_meaning.proofs.PublicLaws.{settling-at_least_one, settling-none_given}
+use Rattle.priority_settle.specs.internal.Firsts.{first_of}
 
 -- lists and tests
-all_of : {A : Type 0} (test : A → Bool) (xs : List A) (x : A) → list_all test xs ≡ true → IsIn xs x → test x ≡ true
-all_of test [] x h is_in = absurd is_in
-all_of test (y ∷ ys) x h (inl e) = let g : test y ≡ true = grind arith in ap test (sym e) ∙ g
-all_of test (y ∷ ys) x h (inr later) = all_of test ys x (grind arith) later
+all_of : {A : Type 0} (test : A → Bool) (xs : List A) (x : A) → list_all test xs ≡ true
+    → Contains xs x → test x ≡ true
+all_of test [] x h is_in = absurd (omega (arith, is_in.1))
+all_of test (y ∷ ys) x h is_in =
+    ⊎_elim (λ e. (let g : test y ≡ true = grind arith in ap test (sym e) ∙ g))
+    (λ later. all_of test ys x (grind arith) later) (members-cases y ys x is_in)
 
-of_all : {A : Type 0} (test : A → Bool) (xs : List A) → ((x : A) → IsIn xs x → test x ≡ true) → list_all test xs ≡ true
+of_all : {A : Type 0} (test : A → Bool) (xs : List A)
+    → ((x : A) → Contains xs x → test x ≡ true) → list_all test xs ≡ true
 of_all test [] h = refl
 of_all test (y ∷ ys) h =
-    let first : test y ≡ true = h y (inl refl) in
-    let more : list_all test ys ≡ true = of_all test ys (λ x later. h x (inr later)) in
+    let first : test y ≡ true = h y (members-first y ys) in
+    let more : list_all test ys ≡ true =
+    of_all test ys (λ x later. h x (members-later y ys x later)) in
     grind arith
 
-found_by : {A : Type 0} (test : A → Bool) (y : A) (ys : List A) (x : A) (b : Bool) → test y ≡ b → (find test ys ≡ Some x → IsIn ys x × (test x ≡ true)) → find test (y ∷ ys) ≡ Some x → IsIn (y ∷ ys) x × (test x ≡ true)
-found_by test y ys x true is later h = let e : y ≡ x = grind arith in (inl e, ap test (sym e) ∙ is)
-found_by test y ys x false is later h = let rest = later (grind arith) in (inr rest.0, rest.1)
+found_by : {A : Type 0} (test : A → Bool) (y : A) (ys : List A) (x : A) (b : Bool) → test y ≡ b
+    → (find test ys ≡ Some x → Contains ys x × (test x ≡ true)) → find test (y ∷ ys) ≡ Some x
+    → Contains (y ∷ ys) x × (test x ≡ true)
+found_by test y ys x true is later h =
+    let e : y ≡ x = grind arith in
+    (subst (Contains (y ∷ ys)) e (members-first y ys), ap test (sym e) ∙ is)
+found_by test y ys x false is later h =
+    let rest = later (grind arith) in (members-later y ys x rest.0, rest.1)
 
-found : {A : Type 0} (test : A → Bool) (xs : List A) (x : A) → find test xs ≡ Some x → IsIn xs x × (test x ≡ true)
+found : {A : Type 0} (test : A → Bool) (xs : List A) (x : A) → find test xs ≡ Some x
+    → Contains xs x × (test x ≡ true)
 found test [] x h = grind arith
 found test (y ∷ ys) x h = found_by test y ys x (test y) refl (found test ys x) h
 
@@ -41,14 +52,14 @@ both_first test more (y ∷ ys) x h g = both_by (test y) refl (λ rest. both_fir
     both_by true e later = let is : y ≡ x = grind arith in let also : more y ≡ true = ap more is ∙ g in grind arith
     both_by false e later = let rest : find (λ z. test z && more z) ys ≡ Some x = later (grind arith) in grind arith
 
-none_both : {A : Type 0} (test more : A → Bool) (xs : List A) → ((x : A) → IsIn xs x → test x ≡ true → more x ≡ false) → find (λ y. test y && more y) xs ≡ None
+none_both : {A : Type 0} (test more : A → Bool) (xs : List A) → ((x : A) → Contains xs x → test x ≡ true → more x ≡ false) → find (λ y. test y && more y) xs ≡ None
 none_both test more [] h = refl
 none_both test more (y ∷ ys) h =
-    let rest : find (λ z. test z && more z) ys ≡ None = none_both test more ys (λ x later. h x (inr later)) in
+    let rest : find (λ z. test z && more z) ys ≡ None = none_both test more ys (λ x later. h x (members-later y ys x later)) in
     none_by (test y) (more y) refl refl rest
   where
     none_by : (a b : Bool) → test y ≡ a → more y ≡ b → find (λ z. test z && more z) ys ≡ None → find (λ z. test z && more z) (y ∷ ys) ≡ None
-    none_by true true e f rest = let no : more y ≡ false = h y (inl refl) e in grind arith
+    none_by true true e f rest = let no : more y ≡ false = h y (members-first y ys) e in grind arith
     none_by true false e f rest = grind arith
     none_by false b e f rest = grind arith
 
@@ -80,7 +91,7 @@ both_not : (a b : Bool) → (a ≡ true → b ≡ false) → not (a && b) ≡ tr
 both_not true b h = let no : b ≡ false = h refl in grind arith
 both_not false b h = refl
 
-tells_unbeaten : (rules : List Rule) (pairs : List ActionAt) (link : ℕ) (p : ActionAt) → is_settled rules pairs link p ≡ true → (q : ActionAt) → IsIn pairs q → is_on rules link q ≡ true → beats rules q p ≡ false
+tells_unbeaten : (rules : List Rule) (pairs : List ActionAt) (link : ℕ) (p : ActionAt) → is_settled rules pairs link p ≡ true → (q : ActionAt) → Contains pairs q → is_on rules link q ≡ true → beats rules q p ≡ false
 unfolding is_settled is_unbeaten
 tells_unbeaten rules pairs link p h q q_in q_on =
     let free : is_unbeaten rules pairs link p ≡ true = grind arith in
@@ -90,7 +101,7 @@ tells_on : (rules : List Rule) (pairs : List ActionAt) (link : ℕ) (p : ActionA
 unfolding is_settled
 tells_on rules pairs link p h = grind arith
 
-is_unbeaten_by : (rules : List Rule) (pairs : List ActionAt) (link : ℕ) (p : ActionAt) → ((q : ActionAt) → IsIn pairs q → is_on rules link q ≡ true → beats rules q p ≡ false) → is_unbeaten rules pairs link p ≡ true
+is_unbeaten_by : (rules : List Rule) (pairs : List ActionAt) (link : ℕ) (p : ActionAt) → ((q : ActionAt) → Contains pairs q → is_on rules link q ≡ true → beats rules q p ≡ false) → is_unbeaten rules pairs link p ≡ true
 unfolding is_unbeaten
 is_unbeaten_by rules pairs link p h =
     of_all (λ q. not (is_on rules link q && beats rules q p)) pairs (λ q q_in. both_not (is_on rules link q) (beats rules q p) (h q q_in))
@@ -145,13 +156,14 @@ longer_on rules pairs link at on =
     longer rules pairs link at (still rules pairs link at)
     (λ q. longer_test rules pairs link at q ∙ ap (λ b. is_settled rules pairs link q && not (b && beats rules at q)) on)
 
-self_by : (rules : List Rule) (link : ℕ) (at q : ActionAt) → is_on rules link at ≡ true → IsSettled rules (at ∷ []) link q → IsIn (at ∷ []) q → beats rules at at ≡ false
-self_by rules link at q on h (inl e) = ap (beats rules at) e ∙ h.unbeaten at (inl refl) on
-self_by rules link at q on h (inr none) = absurd none
+self_by : (rules : List Rule) (link : ℕ) (at q : ActionAt) → is_on rules link at ≡ true → IsSettled rules (at ∷ []) link q → Contains (at ∷ []) q → beats rules at at ≡ false
+self_by rules link at q on h q_in =
+    ⊎_elim (λ e. ap (beats rules at) e ∙ h.unbeaten at (members-first at []) on)
+    (λ none. absurd (omega (arith, none.1))) (members-cases at [] q q_in)
 
 not_itself : (rules : List Rule) (link : ℕ) (at : ActionAt) → is_on rules link at ≡ true → beats rules at at ≡ false
 not_itself rules link at on =
-    let first = settling-at_least_one rules (at ∷ []) link at (inl refl) on in
+    let first = settling-at_least_one rules (at ∷ []) link at (members-first at []) on in
     self_by rules link at first.0 on first.1 first.1.member
 
 passes : (rules : List Rule) (pairs : List ActionAt) (link : ℕ) (at : ActionAt) → is_on rules link at ≡ true → is_unbeaten rules pairs link at ≡ true → beats rules at at ≡ false → find (still rules pairs link at) (at ∷ []) ≡ Some at
@@ -182,32 +194,58 @@ where_kept rules pairs link at b on is below =
     (both_first (is_settled rules pairs link) (λ q. not (beats rules at q)) pairs b is (ap not below))
 
 -- one that the new pair goes before: among the two and any other on the link the new pair is first
-first_of_three : (rules : List Rule) (link : ℕ) (q at b x : ActionAt) → is_on rules link q ≡ true → is_on rules link at ≡ true → is_on rules link b ≡ true → beats rules q b ≡ false → beats rules at b ≡ true → IsSettled rules (q ∷ at ∷ b ∷ []) link x → IsIn (q ∷ at ∷ b ∷ []) x → beats rules q at ≡ false
+abbrev Three : ActionAt → ActionAt → ActionAt → List ActionAt
+Three q at b = q ∷ at ∷ b ∷ []
+
+second_in : (q at b : ActionAt) → Contains (Three q at b) at
+second_in q at b = members-later q (at ∷ b ∷ []) at (members-first at (b ∷ []))
+
+third_in : (q at b : ActionAt) → Contains (Three q at b) b
+third_in q at b =
+    members-later q (at ∷ b ∷ []) b (members-later at (b ∷ []) b (members-first b []))
+
+one_of_three : (q at b x : ActionAt) → Contains (Three q at b) x → (q ≡ x) ⊎ ((at ≡ x) ⊎ (b ≡ x))
+one_of_three q at b x h =
+    ⊎_elim inl
+    (λ more. inr
+    (⊎_elim inl
+    (λ last. inr (⊎_elim (λ e. e) (λ none. absurd (omega (arith, none.1))) (members-cases b [] x last)))
+    (members-cases at (b ∷ []) x more)))
+    (members-cases q (at ∷ b ∷ []) x h)
+
+first_of_three : (rules : List Rule) (link : ℕ) (q at b x : ActionAt) → is_on rules link q ≡ true
+    → is_on rules link at ≡ true → is_on rules link b ≡ true → beats rules q b ≡ false
+    → beats rules at b ≡ true → IsSettled rules (Three q at b) link x
+    → (q ≡ x) ⊎ ((at ≡ x) ⊎ (b ≡ x)) → beats rules q at ≡ false
 first_of_three rules link q at b x q_on at_on b_on below above h (inl e) =
-    let at_not : beats rules at q ≡ false = ap (beats rules at) e ∙ h.unbeaten at (inr (inl refl)) at_on in
-    let b_not : beats rules b q ≡ false = ap (beats rules b) e ∙ h.unbeaten b (inr (inr (inl refl))) b_on in
+    let at_not : beats rules at q ≡ false =
+    ap (beats rules at) e ∙ h.unbeaten at (second_in q at b) at_on in
+    let b_not : beats rules b q ≡ false =
+    ap (beats rules b) e ∙ h.unbeaten b (third_in q at b) b_on in
     let never : true ≡ false = sym above ∙ sym (beats_tied rules at q b below b_not) ∙ at_not in
     grind arith
-first_of_three rules link q at b x q_on at_on b_on below above h (inr (inl e)) = ap (beats rules q) e ∙ h.unbeaten q (inl refl) q_on
-first_of_three rules link q at b x q_on at_on b_on below above h (inr (inr (inl e))) =
-    let never : true ≡ false = sym above ∙ ap (beats rules at) e ∙ h.unbeaten at (inr (inl refl)) at_on in
+first_of_three rules link q at b x q_on at_on b_on below above h (inr (inl e)) =
+    ap (beats rules q) e ∙ h.unbeaten q (members-first q (at ∷ b ∷ [])) q_on
+first_of_three rules link q at b x q_on at_on b_on below above h (inr (inr e)) =
+    let never : true ≡ false =
+    sym above ∙ ap (beats rules at) e ∙ h.unbeaten at (second_in q at b) at_on in
     grind arith
-first_of_three rules link q at b x q_on at_on b_on below above h (inr (inr (inr none))) = absurd none
 
 where_beaten : (rules : List Rule) (pairs : List ActionAt) (link : ℕ) (at b : ActionAt) → is_on rules link at ≡ true → settled_on rules pairs link ≡ Some b → beats rules at b ≡ true → settled_on rules (pairs ++ at ∷ []) link ≡ Some at
 unfolding settled_on
 where_beaten rules pairs link at b on is above =
     let held = found (is_settled rules pairs link) pairs b is in
     let b_on : is_on rules link b ≡ true = tells_on rules pairs link b held.1 in
-    let below : (q : ActionAt) → IsIn pairs q → is_on rules link q ≡ true → beats rules q b ≡ false = tells_unbeaten rules pairs link b held.1 in
+    let below : (q : ActionAt) → Contains pairs q → is_on rules link q ≡ true → beats rules q b ≡ false = tells_unbeaten rules pairs link b held.1 in
     new_first rules pairs link at on
     (none_both (is_settled rules pairs link) (λ q. not (beats rules at q)) pairs
     (λ q q_in q_settled. ap not
     (beats_tied rules at q b (below q q_in (tells_on rules pairs link q q_settled)) (tells_unbeaten rules pairs link q q_settled b held.0 b_on) ∙ above)))
     (is_unbeaten_by rules pairs link at
     (λ q q_in q_on. (
-    let first = settling-at_least_one rules (q ∷ at ∷ b ∷ []) link at (inr (inl refl)) on in
-    first_of_three rules link q at b first.0 q_on on b_on (below q q_in q_on) above first.1 first.1.member)))
+    let first = settling-at_least_one rules (Three q at b) link at (second_in q at b) on in
+    first_of_three rules link q at b first.0 q_on on b_on (below q q_in q_on) above first.1
+    (one_of_three q at b first.0 first.1.member))))
 
 one_more_by : (rules : List Rule) (pairs : List ActionAt) (link : ℕ) (at : ActionAt) (o : Option ActionAt) → is_on rules link at ≡ true → settled_on rules pairs link ≡ o → settled_on rules (pairs ++ at ∷ []) link ≡ Some (first_of rules o at)
 one_more_by rules pairs link at None on is = where_none rules pairs link at on is

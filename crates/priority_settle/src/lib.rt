@@ -1,4 +1,5 @@
-//! Which of the listed pairs of rules and actions are settled: for each link the one whose rule has the highest priority.
+//! Which of the listed pairs of rules and actions are settled: for each link the one whose rule has
+//! the highest priority.
 #![tactic(auto)]
 
 mod pairs;
@@ -6,4 +7,4 @@ mod table;
 #[cfg(test)]
 mod tests;
 
-pub use table::settle;
+pub use table::{settle, settle_into};

@@ -2,7 +2,8 @@
 ghost use Rattle.std.specs.Prelude.{◌≡◌, option_map};
 ghost use Rattle.rule_types.specs.Reading.{branch_actions};
 ghost use Rattle.rule_types.specs.Ranks.{outranks as ranks_above, precedes as comes_before};
-ghost use Rattle.rule_meaning.specs.Settled.{action_at as action_of, priority_at as priority_of, beats};
+ghost use Rattle.rule_meaning.specs.Settled.{action_at as action_of, priority_at as priority_of};
+ghost use Rattle.rule_meaning.specs.Settled.{beats};
 
 use exact_fraction::frac::Frac;
 use exact_fraction::relation::Relation;

@@ -2,7 +2,7 @@
 ghost use Rattle.std.specs.Prelude.{IfOk};
 ghost use Rattle.rule_types.specs.WellFormed.{InOrder};
 
-use crate::settle;
+use crate::{settle, settle_into};
 use exact_fraction::frac::Frac;
 use exact_fraction::relation::Relation;
 use list_types::Items;
@@ -96,5 +96,16 @@ fn each_link_has_its_pair(rt: HostRuntime) -> Result<(), Fail> {
     assert!(rt; pairs.as_slice() == [first_action(1), first_action(0)].as_slice());
     let none = settle(rt.alloc(), &rules, &[])?;
     assert!(rt; none.is_empty());
+    Ok(())
+}
+
+#[test]
+fn places_are_written_anew(rt: HostRuntime) -> Result<(), Fail> {
+    let first = rule_on(rt.alloc(), 1, None)?;
+    let second = rule_on(rt.alloc(), 0, Some(Frac::one()))?;
+    let rules = rules_of(rt.alloc(), first, second)?;
+    let mut firsts = vec![in rt.alloc(); Some(first_action(0)); rules.controlled.len()]?;
+    settle_into(&rules, &[first_action(0)], &mut firsts);
+    assert!(rt; firsts.as_slice() == [None, Some(first_action(0))].as_slice());
     Ok(())
 }

@@ -1,7 +1,7 @@
 -- The clock tells the date of the calendar.
 use Rattle.std.proofs.Common.{ℕ, ◌≤◌, ap, pos}
 use Rattle.jiff_core.specs.Calendar.{day_of_year, days_from_civil, IsCivilDate}
-use Rattle.num_text.proofs.Cited.{calendar-date}
+use Rattle.num_text.proofs.PublicLaws.{calendar-date}
 use Rattle.rule_meaning.specs.Clock.{year_of, month_of, year_day_of, IsClockDate}
 
 pub dates_known : (y m d : ℕ) → 1 ≤ y → IsCivilDate (pos y) m d → IsClockDate (days_from_civil (pos y) m d) y m (day_of_year (pos y) m d)

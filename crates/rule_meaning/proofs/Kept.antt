@@ -7,7 +7,7 @@ use Rattle.exact_fraction.specs.Order.{same}
 use Rattle.exact_fraction.specs.Operations.{sum_of, difference_of, quotient_of, negation_of, round9_of}
 use Rattle.exact_fraction.specs.Checked.{checked, is_zero}
 use Rattle.exact_fraction.specs.declared.error.Overflow.{Overflow}
-use Rattle.exact_fraction.proofs.Cited.{lowest_terms-of_whole, lowest_terms-of_sign, lowest_terms-of_rounding, rounding-divides, tells-checked}
+use Rattle.exact_fraction.proofs.PublicLaws.{lowest_terms-of_whole, lowest_terms-of_sign, lowest_terms-of_rounding, rounding-divides, tells-checked}
 use Rattle.rule_types.specs.declared.action.Action.{Action}
 use Rattle.rule_types.specs.declared.action.ActionAt.{ActionAt}
 use Rattle.rule_types.specs.declared.action.Order.{Order}
@@ -20,7 +20,7 @@ use Rattle.rule_types.specs.declared.rules.Rules.{Rules}
 use Rattle.rule_types.specs.declared.state.State.{State}
 use Rattle.rule_types.specs.declared.stop.Stop.{Stop}
 use Rattle.rule_types.specs.Tables.{TableSet}
-use Rattle.rule_meaning.specs.Steps.{◌>>=◌}
+use Rattle.rule_meaning.specs.CheckedSteps.{◌>>=◌}
 use Rattle.rule_meaning.specs.Settled.{action_at}
 use Rattle.rule_meaning.specs.Premise.{listed}
 use Rattle.rule_meaning.specs.Worth.{controller_of, set_point_of, old_target, is_pump, minutes_of, pid_worth, rule_pid}

@@ -5,10 +5,10 @@ use Rattle.exact_fraction.specs.Order.{◌≤ℚ◌, less, greater_of}
 use Rattle.exact_fraction.specs.Operations.{sum_of, difference_of, product_of, quotient_of, line_at}
 use Rattle.exact_fraction.specs.Checked.{checked}
 use Rattle.exact_fraction.specs.declared.error.Overflow.{Overflow}
-use Rattle.exact_fraction.proofs.Cited.{tells-checked, tests-not_less, tests-less, order-below_is_at_most, order-antisymmetric}
-use Rattle.rule_types.specs.Tables.{Point}
-use Rattle.rule_meaning.specs.Steps.{◌>>=◌}
-use Rattle.rule_meaning.specs.Lines.{between, line_from, at_least_zero, line_value, IsOnLine, UpToFirst, AtPoint, Inside, FromLast, IsTableValue}
+use Rattle.exact_fraction.proofs.PublicLaws.{tells-checked, tests-not_less, tests-less, order-below_is_at_most, order-antisymmetric}
+use Rattle.rule_types.specs.declared.table.Point.{Point}
+use Rattle.rule_meaning.specs.CheckedSteps.{◌>>=◌}
+use Rattle.rule_meaning.specs.StraightLines.{between, line_from, at_least_zero, line_value, IsOnLine, UpToFirst, AtPoint, Inside, FromLast, IsTableValue}
 
 -- a step that fits goes on with its number
 goes_on : {B : Type 0} (q : Rational) (next : Rational → Result B Overflow) (y : B) → (checked q >>= next) ≡ Ok y → next q ≡ Ok y
@@ -35,7 +35,7 @@ between_is p q x y h =
     (goes_on quotient _ y (goes_on product _ y (goes_on run _ y (goes_on from _ y (goes_on rise _ y h)))))
 
 -- what is on the line of the later points is on the line of all, from the second point on
-shifted : (p q : Point) (more : List Point) (x y : Rational) → q.x ≤ℚ x → IsOnLine (q ∷ more) x y → IsOnLine (p ∷ q ∷ more) x y
+pub shifted : (p q : Point) (more : List Point) (x y : Rational) → q.x ≤ℚ x → IsOnLine (q ∷ more) x y → IsOnLine (p ∷ q ∷ more) x y
 shifted p q more x y h (UpToFirst a is low e) =
     let same : q ≡ a = grind arith in
     let low' : x ≤ℚ q.x = subst (λ z. x ≤ℚ z.x) (sym same) low in

@@ -8,7 +8,7 @@ use Rattle.std.proofs.Math.Nat.{le_of_dvd}
 use Rattle.exact_fraction.specs.Number.{Rational, den, ratio, whole, zero, one, fits, IsNumber}
 use Rattle.exact_fraction.specs.Order.{◌≤ℚ◌, ◌=ℚ◌, less, lesser_of, greater_of}
 use Rattle.exact_fraction.specs.Operations.{sum_of, difference_of, quotient_of, round9_of, nearest_whole}
-use Rattle.exact_fraction.proofs.Cited.{lowest_terms-value, lowest_terms-divides, lowest_terms-of_same, lowest_terms-of_sum, sums-of_same, sums-commutes, sums-difference_of_same}
+use Rattle.exact_fraction.proofs.PublicLaws.{lowest_terms-value, lowest_terms-divides, lowest_terms-of_same, lowest_terms-of_sum, sums-of_same, sums-commutes, sums-difference_of_same}
 use Rattle.rule_types.specs.WellFormed.{has_rate}
 use Rattle.rule_meaning.specs.Movement.{reach, towards, moved}
 use Rattle.rule_meaning.proofs.Moves.{moved_least, moved_most, moved_at_once}

@@ -4,7 +4,7 @@ use Rattle.std.specs.List.{AllZip}
 use Rattle.exact_fraction.specs.Number.{Rational, zero, one}
 use Rattle.exact_fraction.specs.Operations.{sum_of, difference_of, round9_of}
 use Rattle.exact_fraction.specs.Order.{◌≤ℚ◌, less, lesser_of, greater_of}
-use Rattle.exact_fraction.proofs.Cited.{order-total, order-transitive, order-below_is_at_most, order-reflexive, tests-not_less, order-lesser, order-greater}
+use Rattle.exact_fraction.proofs.PublicLaws.{order-total, order-transitive, order-below_is_at_most, order-reflexive, tests-not_less, order-lesser, order-greater}
 use Rattle.rule_types.specs.declared.action.Order.{Order}
 use Rattle.rule_types.specs.declared.stop.Stop.{Stop}
 use Rattle.rule_types.specs.declared.rules.Rules.{Rules}

@@ -1,9 +1,9 @@
 -- Groups of things, and premises over groups of conditions.
 use Rattle.std.proofs.Common.{◌≡◌, ℕ, suc, ◌+◌, Bool, true, false, not, Some, List, [], ◌∷◌, refl, ap, sym, subst, ◌∙◌, arith, cond}
 use Rattle.std.specs.Prelude.{◌||◌}
-use Rattle.std.specs.List.{list_all, list_any, flat_map, slice_get, AllZip}
+use Rattle.std.specs.List.{list_all, list_any, flat_map, slice_get, onto_first, AllZip}
 use Rattle.rule_types.specs.declared.condition.Condition.{Condition}
-use Rattle.rule_meaning.specs.Premise.{ends_before, onto_first, groups, premise_by, Placed, placed_from, premise_at}
+use Rattle.rule_meaning.specs.Premise.{ends_before, groups, premise_by, Placed, placed_from, premise_at}
 
 joined_onto : {A : Type 0} (c : A) (gs : List (List A)) → flat_map (λ g. g) (onto_first c gs) ≡ c ∷ flat_map (λ g. g) gs
 joined_onto c [] = refl

@@ -8,15 +8,15 @@ use Rattle.exact_fraction.specs.Operations.{sum_of, round9_of}
 use Rattle.exact_fraction.specs.Checked.{checked}
 use Rattle.std.proofs.lemmas.Int.{ints}
 use Rattle.exact_fraction.specs.declared.error.Overflow.{Overflow}
-use Rattle.exact_fraction.proofs.Cited.{order-reflexive, order-greater, order-lesser, order_steps}
+use Rattle.exact_fraction.proofs.PublicLaws.{order-reflexive, order-greater, order-lesser, order_steps}
 use Rattle.rule_types.specs.declared.action.PidSet.{PidSet}
 use Rattle.rule_types.specs.declared.action.PidMemory.{PidMemory}
 use Rattle.rule_types.specs.declared.key.Attr.TheVariants.{TimeOpen, TimeClosed}
 use Rattle.rule_types.specs.declared.state.LinkState.{LinkState}
-use Rattle.rule_types.specs.Tables.{Point}
+use Rattle.rule_types.specs.declared.table.Point.{Point}
 use Rattle.rule_meaning.specs.State.{link_value}
-use Rattle.rule_meaning.specs.Steps.{◌>>=◌}
-use Rattle.rule_meaning.specs.Lines.{line_from, at_least_zero, line_value}
+use Rattle.rule_meaning.specs.CheckedSteps.{◌>>=◌}
+use Rattle.rule_meaning.specs.StraightLines.{line_from, at_least_zero, line_value}
 use Rattle.rule_meaning.specs.Pid.{IsPidValue, error_of, unstuck, change_of, bounded, pid_step}
 use Rattle.rule_meaning.proofs.Moves.{lesser_least_by}
 

@@ -6,7 +6,7 @@ use Rattle.std.specs.Cmp.Lexicographic.{pointwise}
 use Rattle.std.proofs.Common.{ap, rules}
 use Rattle.std.proofs.lemmas.Bool.Decides.{Decides-like, Decides-and, Decides-eqb}
 use Rattle.std.proofs.lemmas.Slice.Eq.{slice_eq-Decides}
-use Rattle.exact_fraction.proofs.Cited.{equality-fraction, equality-moment, equality-relation}
+use Rattle.exact_fraction.proofs.PublicLaws.{equality-fraction, equality-moment, equality-relation}
 use Rattle.rule_types.proofs.EqualParts.{Option-sames}
 use Rattle.rule_types.proofs.SameFormula.{Expr-sames}
 use Rattle.rule_types.proofs.KeyPlaces.{key_place-injective}
@@ -64,6 +64,10 @@ use Rattle.rule_types.specs.declared.state.LinkState.{LinkState}
 use Rattle.rule_types.specs.contracts.state.LinkStatePartialEq.TheImpl as LinkStateEq
 use Rattle.rule_types.specs.declared.state.State.{State}
 use Rattle.rule_types.specs.contracts.state.StatePartialEq.TheImpl as StateEq
+use Rattle.rule_types.specs.declared.row.Row.{Row}
+use Rattle.rule_types.specs.contracts.row.RowPartialEq.TheImpl as RowEq
+use Rattle.rule_types.specs.declared.table.Point.{Point}
+use Rattle.rule_types.specs.contracts.table.PointPartialEq.TheImpl as PointEq
 use Rattle.rule_types.specs.declared.stop.StopCause.{StopCause}
 use Rattle.rule_types.specs.contracts.stop.StopCausePartialEq.TheImpl as StopCauseEq
 use Rattle.rule_types.specs.declared.stop.StopPlace.{StopPlace}
@@ -222,6 +226,21 @@ State-sames a b =
     (λ e. (ap (λ (x : State). x.moment) e, (ap (λ (x : State). x.start) e, (ap (λ (x : State). x.step) e, (ap (λ (x : State). x.inputs) e, ap (λ (x : State). x.links) e)))))
     (Decides-and _ _ (equality-moment a.moment b.moment) (Decides-and _ _ (equality-moment a.start b.start) (Decides-and _ _ (equality-fraction a.step b.step) (Decides-and _ _ (slice_eq-Decides (Option-sames equality-fraction) a.inputs b.inputs _ refl) (slice_eq-Decides LinkState-sames a.links b.links _ refl)))))
 
+pub Row-sames : (a b : Row) → Decides (RowEq.eq-value.it a b) (a ≡ b)
+Row-sames a b =
+    Decides-like (RowEq.eq-value.it a b)
+    (λ p i. record { moment = p.0 i; inputs = p.1 i })
+    (λ e. (ap (λ (x : Row). x.moment) e, ap (λ (x : Row). x.inputs) e))
+    (Decides-and _ _ (equality-moment a.moment b.moment)
+    (slice_eq-Decides (Option-sames equality-fraction) a.inputs b.inputs _ refl))
+
+pub Point-sames : (a b : Point) → Decides (PointEq.eq-value.it a b) (a ≡ b)
+Point-sames a b =
+    Decides-like (PointEq.eq-value.it a b)
+    (λ p i. record { x = p.0 i; y = p.1 i })
+    (λ e. (ap (λ (p : Point). p.x) e, ap (λ (p : Point). p.y) e))
+    (Decides-and _ _ (equality-fraction a.x b.x) (equality-fraction a.y b.y))
+
 pub StopCause-sames : (a b : StopCause) → Decides (StopCauseEq.eq-value.it a b) (a ≡ b)
 StopCause-sames a b = search rules
 
@@ -264,4 +283,4 @@ pub AddFault-sames : (a b : AddFault) → Decides (AddFaultEq.eq-value.it a b) (
 AddFault-sames a b = search rules
 
 -- what `==` says of each type, for a caller's `using`
-pub ruleset sames = (equality-fraction, equality-moment, equality-relation, Expr-sames, Space-sames, ObjectKind-sames, ObjectWord-sames, ObjectNo-sames, Attr-sames, ClockAttr-sames, Key-sames, Side-sames, Right-sames, Condition-sames, CurveNo-sames, SeriesNo-sames, PidSet-sames, PidMemory-sames, What-sames, Action-sames, Branch-sames, ActionAt-sames, Order-sames, Rule-sames, NameKind-sames, NameDef-sames, Rules-sames, LinkState-sames, State-sames, StopCause-sames, StopPlace-sames, Stop-sames, ReadingEnd-sames, RowStop-sames, Cause-sames, Refusal-sames, ReadFault-sames, AddFault-sames)
+pub ruleset sames = (equality-fraction, equality-moment, equality-relation, Expr-sames, Space-sames, ObjectKind-sames, ObjectWord-sames, ObjectNo-sames, Attr-sames, ClockAttr-sames, Key-sames, Side-sames, Right-sames, Condition-sames, CurveNo-sames, SeriesNo-sames, PidSet-sames, PidMemory-sames, What-sames, Action-sames, Branch-sames, ActionAt-sames, Order-sames, Rule-sames, NameKind-sames, NameDef-sames, Rules-sames, LinkState-sames, State-sames, Row-sames, Point-sames, StopCause-sames, StopPlace-sames, Stop-sames, ReadingEnd-sames, RowStop-sames, Cause-sames, Refusal-sames, ReadFault-sames, AddFault-sames)

@@ -1,7 +1,12 @@
-pub mod Cited
+pub mod PublicLaws
 pub mod Equal
 pub mod EqualParts
-pub mod ExampleRules
+pub mod Fitting
+pub mod KeyExamples
 pub mod KeyPlaces
 pub mod Opened
+pub mod Refusals
+pub mod RuleCases
+pub mod RuleFaults
 pub mod SameFormula
+pub mod Station

@@ -10,7 +10,7 @@ use Rattle.rule_types.specs.declared.expr.Expr.TheViews.{roll-Expr, out-Expr, ro
 use Rattle.rule_types.specs.contracts.expr.ExprPartialEq.TheImpl as ExprEq
 use Rattle.rule_types.specs.contracts.expr.ExprPartialEq.TheImpl.Laws as partial
 use Rattle.rule_types.specs.contracts.expr.ExprEq.TheImpl.Laws as laws
-use Rattle.exact_fraction.proofs.Cited.{equality-fraction}
+use Rattle.exact_fraction.proofs.PublicLaws.{equality-fraction}
 
 -- `==` on `a` is true at `a` alone
 abbrev Told : Expr → Type 0

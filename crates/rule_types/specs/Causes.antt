@@ -1,9 +1,17 @@
 -- The numbers of the causes of refusal.
 use Rattle.std.specs.Prelude.{ℕ}
 use Rattle.rule_types.specs.declared.refusal.Cause.{Cause}
-use Rattle.rule_types.specs.declared.refusal.Cause.TheVariants.{LineTooLong, BadText, BadOption, DuplicateName, BadCurve, BadSeries, BadClause, ClauseOrder, UnknownObject, WrongKind, UnknownAttribute, WrongValue, UnknownName, ReservedName, OutsideFunction, BadExpression, NumberTooLarge, UnknownTable, FileSeries, RuleStep, TooMany}
+use Rattle.rule_types.specs.declared.refusal.Cause.TheVariants.{LineTooLong, BadText, BadOption}
+use Rattle.rule_types.specs.declared.refusal.Cause.TheVariants.{DuplicateName, BadCurve, BadSeries}
+use Rattle.rule_types.specs.declared.refusal.Cause.TheVariants.{BadClause, ClauseOrder}
+use Rattle.rule_types.specs.declared.refusal.Cause.TheVariants.{UnknownObject, WrongKind}
+use Rattle.rule_types.specs.declared.refusal.Cause.TheVariants.{UnknownAttribute, WrongValue}
+use Rattle.rule_types.specs.declared.refusal.Cause.TheVariants.{UnknownName, ReservedName}
+use Rattle.rule_types.specs.declared.refusal.Cause.TheVariants.{OutsideFunction, BadExpression}
+use Rattle.rule_types.specs.declared.refusal.Cause.TheVariants.{NumberTooLarge, UnknownTable}
+use Rattle.rule_types.specs.declared.refusal.Cause.TheVariants.{FileSeries, RuleStep, TooMany}
 
--- the number of a cause: on one line the cause of the least number is told (own)
+-- the number of a cause: on one line the cause of the least number is reported
 abbrev pub cause_number : Cause → ℕ
 cause_number LineTooLong = 1
 cause_number BadText = 2

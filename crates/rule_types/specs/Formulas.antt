@@ -18,8 +18,8 @@ levels_step (Expr-F.Mul a b) = suc (max a b)
 levels_step (Expr-F.Div a b) = suc (max a b)
 levels_step (Expr-F.Pow a n) = suc a
 
--- the levels of a formula's tree: a number or a name is one level, and each sign, function, operator and power one more
--- than its deepest operand (own)
+-- the levels of a formula's tree: a number or a name is one level, and each sign, function,
+-- operator and power one more than its deepest operand
 abbrev pub levels : Expr → ℕ
 levels = fold-Expr ℕ levels_step
 
@@ -37,7 +37,7 @@ names_step (Expr-F.Mul a b) = a ++ b
 names_step (Expr-F.Div a b) = a ++ b
 names_step (Expr-F.Pow a n) = a
 
--- the names in a formula, from the left to the right (own)
+-- the names in a formula, from the left to the right
 abbrev pub formula_names : Expr → List ℕ
 formula_names = fold-Expr (List ℕ) names_step
 
@@ -55,7 +55,7 @@ names_pass_step passes (Expr-F.Mul a b) = a && b
 names_pass_step passes (Expr-F.Div a b) = a && b
 names_pass_step passes (Expr-F.Pow a n) = a
 
--- whether each name in a formula passes a test (own)
+-- whether each name in a formula passes a test
 abbrev pub names_pass : (ℕ → Bool) → Expr → Bool
 names_pass passes = fold-Expr Bool (names_pass_step passes)
 
@@ -73,6 +73,6 @@ exponents_step (Expr-F.Mul a b) = a && b
 exponents_step (Expr-F.Div a b) = a && b
 exponents_step (Expr-F.Pow a n) = a && nat_le n 8
 
--- whether each exponent of a formula is at most 8 (own)
+-- whether each exponent of a formula is at most 8
 abbrev pub has_small_exponents : Expr → Bool
 has_small_exponents = fold-Expr Bool exponents_step

@@ -1,4 +1,4 @@
--- The order of keys: nodes, links, gages, each by number and then by attribute, and then the clock (own).
+-- The order of keys: nodes, links, gages, each by number and then by attribute, and then the clock.
 use Rattle.std.specs.Prelude.{◌≡◌, ℕ, ◌+◌, List, [], ◌∷◌, length}
 use Rattle.std.specs.Ordering.{nat_cmp}
 use Rattle.std.specs.declared.cmp.Ordering.{Ordering}
@@ -8,20 +8,25 @@ use Rattle.std.specs.Cmp.Lexicographic.{slice_cmp}
 use Rattle.rule_types.specs.declared.object.Space.{Space}
 use Rattle.rule_types.specs.declared.object.Space.TheVariants.{Nodes, Links, Gages}
 use Rattle.rule_types.specs.declared.key.Attr.{Attr}
-use Rattle.rule_types.specs.declared.key.Attr.TheVariants.{Intensity, HourDepth, Depth, MaxDepth, FullDepth, Head, Volume, Inflow, Flow, FullFlow, Velocity, Length, Slope, Setting, Status, TimeOpen, TimeClosed}
+use Rattle.rule_types.specs.declared.key.Attr.TheVariants.{Intensity, HourDepth, Depth, MaxDepth}
+use Rattle.rule_types.specs.declared.key.Attr.TheVariants.{FullDepth, Head, Volume, Inflow, Flow}
+use Rattle.rule_types.specs.declared.key.Attr.TheVariants.{FullFlow, Velocity, Length, Slope}
+use Rattle.rule_types.specs.declared.key.Attr.TheVariants.{Setting, Status, TimeOpen, TimeClosed}
 use Rattle.rule_types.specs.declared.key.ClockAttr.{ClockAttr}
-use Rattle.rule_types.specs.declared.key.ClockAttr.TheVariants.{Time, Date, Month, Day, ClockTime, DayOfYear}
+use Rattle.rule_types.specs.declared.key.ClockAttr.TheVariants.{Time, Date, Month, Day, ClockTime}
+use Rattle.rule_types.specs.declared.key.ClockAttr.TheVariants.{DayOfYear}
 use Rattle.rule_types.specs.declared.key.Key.{Key}
 use Rattle.rule_types.specs.declared.key.Key.TheVariants.{Object, Clock}
 
--- the place of a space among the spaces (own)
+-- the place of a space among the spaces
 abbrev pub space_place : Space → ℕ
 space_place Nodes = 0
 space_place Links = 1
 space_place Gages = 2
 
--- the place of an attribute: those of a link, of a node and of a gage each stand in the order in which `link_has`, `node_has`
--- and `gage_has` list them, and HOUR_DEPTH by its hours (own; the attributes are those of the SWMM 5.2 manual, [CONTROLS])
+-- the place of an attribute: those of a link, of a node and of a gage each stand in the order in
+-- which `link_has`, `node_has` and `gage_has` list them, and HOUR_DEPTH by its hours (the
+-- attributes are those of the SWMM 5.2 manual, [CONTROLS])
 abbrev pub attribute_place : Attr → ℕ
 attribute_place Flow = 0
 attribute_place FullFlow = 1
@@ -41,7 +46,8 @@ attribute_place TimeClosed = 14
 attribute_place Intensity = 15
 attribute_place (HourDepth hours) = hours + 16
 
--- the place of an attribute of the clock (own; the attributes are those of the SWMM 5.2 manual, [CONTROLS])
+-- the place of an attribute of the clock (the attributes are those of the SWMM 5.2 manual,
+-- [CONTROLS])
 abbrev pub clock_place : ClockAttr → ℕ
 clock_place Time = 0
 clock_place Date = 1
@@ -50,15 +56,16 @@ clock_place Day = 3
 clock_place ClockTime = 4
 clock_place DayOfYear = 5
 
--- the place of a key: its space, its object's number, its attribute; the clock comes last (own)
+-- the place of a key: its space, its object's number, its attribute; the clock comes last
 abbrev pub key_place : Key → List ℕ
-key_place (Object object attribute) = space_place object.space ∷ object.index ∷ attribute_place attribute ∷ []
+key_place (Object object attribute) =
+    space_place object.space ∷ object.index ∷ attribute_place attribute ∷ []
 key_place (Clock attribute) = 3 ∷ 0 ∷ clock_place attribute ∷ []
 
--- how a key stands to another: as the first numbers of their places that differ (own)
+-- how a key stands to another: as the first numbers of their places that differ
 abbrev pub key_cmp : Key → Key → Ordering
 key_cmp a b = slice_cmp nat_cmp (key_place a) (key_place b)
 
--- keys in key order without repeats: each stands before the next (own)
+-- keys in key order without repeats: each stands before the next
 abbrev pub IsInKeyOrder : List Key → Type 0
 IsInKeyOrder keys = AllAdjacentBelow (λ a b. key_cmp a b ≡ Less) keys (length keys)

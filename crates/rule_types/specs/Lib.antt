@@ -4,9 +4,12 @@ pub mod Examples
 pub mod Finding
 pub mod Fitting
 pub mod Formulas
+pub mod KeyExamples
 pub mod KeyOrder
 pub mod Keys
 pub mod Ranks
 pub mod Reading
+pub mod Refusals
+pub mod RuleCases
 pub mod Tables
 pub mod WellFormed

@@ -1,15 +1,13 @@
 //! The actions of rules, their places and what they order.
-ghost use Rattle.std.specs.Prelude.{◌≡◌, ◌↔◌, IsTrue};
-
 use exact_fraction::frac::Frac;
 
-/// A curve's place, from 0, among all curves in the order of their first lines (own).
+/// A curve's place, from 0, among all curves in the order of their first lines.
 #[derive(Clone, Copy, Debug, PartialEq, Eq)]
 pub struct CurveNo {
     pub index: u32,
 }
 
-/// A series' place, from 0, among all series in the order of their first lines (own).
+/// A series' place, from 0, among all series in the order of their first lines.
 #[derive(Clone, Copy, Debug, PartialEq, Eq)]
 pub struct SeriesNo {
     pub index: u32,
@@ -25,7 +23,7 @@ pub struct PidSet {
     pub derivative: Frac,
 }
 
-/// The two errors that a PID action keeps: the last and the one before (own).
+/// The two errors that a PID action keeps: the last and the one before.
 #[derive(Clone, Copy, Debug, PartialEq, Eq)]
 pub struct PidMemory {
     pub e1: Frac,
@@ -45,31 +43,12 @@ pub enum What {
     Pid(PidSet, u32),
 }
 
-impl What {
-    /// Whether the two are the same value.
-    #[tactic(auto, using(crate::proofs::Equal::sames))]
-    pub fn is_same(&self, other: &What) -> bool
-        ensures value { IsTrue result ↔ (self.now ≡ other.now) }
-    {
-        self == other
-    }
-}
-
-/// An action of a rule on a link, which is given by its place in link order (SWMM 5.2 manual, [CONTROLS]).
+/// An action of a rule on a link, which is given by its place in link order (SWMM 5.2 manual,
+/// [CONTROLS]).
 #[derive(Clone, Copy, Debug, PartialEq, Eq)]
 pub struct Action {
     pub link: u32,
     pub what: What,
-}
-
-impl Action {
-    /// Whether the two are the same action.
-    #[tactic(auto, using(crate::proofs::Equal::sames))]
-    pub fn is_same(&self, other: &Action) -> bool
-        ensures value { IsTrue result ↔ (self.now ≡ other.now) }
-    {
-        self == other
-    }
 }
 
 /// The two branches of a rule, THEN and ELSE (SWMM 5.2 manual, [CONTROLS]).
@@ -79,7 +58,8 @@ pub enum Branch {
     Otherwise,
 }
 
-/// The place of an action: its rule in the file, its branch, and its place in the branch, both from 0 (own).
+/// The place of an action: its rule in the file, its branch, and its place in the branch, both from
+/// 0.
 #[derive(Clone, Copy, Debug, PartialEq, Eq)]
 pub struct ActionAt {
     pub rule: u32,
@@ -87,17 +67,7 @@ pub struct ActionAt {
     pub action: u32,
 }
 
-impl ActionAt {
-    /// Whether the two are the same place.
-    #[tactic(auto, using(crate::proofs::Equal::sames))]
-    pub fn is_same(&self, other: &ActionAt) -> bool
-        ensures value { IsTrue result ↔ (self.now ≡ other.now) }
-    {
-        self == other
-    }
-}
-
-/// What a reading orders: the value that an action gives to a link (own).
+/// What a reading orders: the value that an action gives to a link.
 #[derive(Clone, Copy, Debug, PartialEq, Eq)]
 pub struct Order {
     pub link: u32,

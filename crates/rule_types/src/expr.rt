@@ -1,11 +1,12 @@
 //! Formulas.
-ghost use Rattle.std.specs.Prelude.{◌≡◌, ◌↔◌, IsTrue, IfOk};
+ghost use Rattle.std.specs.Prelude.{◌≡◌, IfOk};
 
 use exact_fraction::frac::Frac;
 use list_types::Boxed;
 use std::alloc::AllocError;
 
-/// The formula of an expression (SWMM 5.2 manual, [CONTROLS]). A sign `+` and parentheses make no part of it.
+/// The formula of an expression (SWMM 5.2 manual, [CONTROLS]). A sign `+` and parentheses make no
+/// part of it.
 #[cycle(expr)]
 #[derive(Debug, Drop, PartialEq, Eq)]
 pub enum Expr {
@@ -23,16 +24,6 @@ pub enum Expr {
     Mul(Boxed<Expr>, Boxed<Expr>),
     Div(Boxed<Expr>, Boxed<Expr>),
     Pow(Boxed<Expr>, u8),
-}
-
-impl Expr {
-    /// Whether the two are the same formula.
-    #[tactic(auto, using(crate::proofs::Equal::sames))]
-    pub fn is_same(&self, other: &Expr) -> bool
-        ensures value { IsTrue result ↔ (self.now ≡ other.now) }
-    {
-        self == other
-    }
 }
 
 /// A copy takes memory, and equals its formula.

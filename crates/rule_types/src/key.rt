@@ -4,7 +4,8 @@ ghost use Rattle.std.specs.Prelude.{◌≡◌, ◌↔◌, ◌+◌, IsTrue};
 use crate::object::ObjectNo;
 use std::cmp::Ordering;
 
-/// An attribute of the simulation's clock (own; the attributes are those of the SWMM 5.2 manual, [CONTROLS]).
+/// An attribute of the simulation's clock (the attributes are those of the SWMM 5.2 manual,
+/// [CONTROLS]).
 #[derive(Clone, Copy, Debug, PartialEq, Eq)]
 pub enum ClockAttr {
     /// Hours since the start.
@@ -39,7 +40,7 @@ impl ClockAttr {
     }
 }
 
-/// An attribute of an object (own; the attributes are those of the SWMM 5.2 manual, [CONTROLS]).
+/// An attribute of an object (the attributes are those of the SWMM 5.2 manual, [CONTROLS]).
 #[derive(Clone, Copy, Debug, PartialEq, Eq)]
 pub enum Attr {
     /// A gage's rainfall intensity.
@@ -96,8 +97,8 @@ impl Attr {
     }
 }
 
-/// What a side of a condition or a variable reads: an attribute of an object, or of the clock (SWMM 5.2 manual,
-/// [CONTROLS]).
+/// What a side of a condition or a variable reads: an attribute of an object, or of the clock (SWMM
+/// 5.2 manual, [CONTROLS]).
 #[derive(Clone, Copy, Debug)]
 pub enum Key {
     Object(ObjectNo, Attr),
@@ -106,6 +107,7 @@ pub enum Key {
 
 impl Key {
     ghost use Rattle.rule_types.specs.KeyOrder.{key_place};
+    ghost use Rattle.rule_types.specs.Keys.{is_time as reads_time};
 
     /// Whether the two are the same key.
     #[tactic(auto, using(crate::proofs::Equal::sames))]
@@ -113,6 +115,17 @@ impl Key {
         ensures value { IsTrue result ↔ (self.now ≡ other.now) }
     {
         self == other
+    }
+
+    /// Whether the key's value is a time in hours: TIME, CLOCKTIME, TIMEOPEN or TIMECLOSED.
+    pub fn is_time(&self) -> bool
+        ensures value { result ≡ reads_time self.now }
+    {
+        match self {
+            Key::Object(_, Attr::TimeOpen | Attr::TimeClosed) => true,
+            Key::Clock(ClockAttr::Time | ClockAttr::ClockTime) => true,
+            _ => false,
+        }
     }
 
     /// The place of a key in key order: its space, its object's number and its attribute.
@@ -154,7 +167,7 @@ impl Eq for Key {
     ghost laws = { on_equiv key_place nat_list_eq_equiv };
 }
 
-/// Key order: nodes, links and gages, each by number and then by attribute, and then the clock (own).
+/// Key order: nodes, links and gages, each by number and then by attribute, and then the clock.
 impl Ord for Key {
     ghost use Rattle.rule_types.specs.KeyOrder.{key_place, key_cmp};
     ghost use Rattle.std.specs.Prelude.{refl};

@@ -1,5 +1,5 @@
 //! Variables and expressions.
-ghost use Rattle.std.specs.Prelude.{◌≡◌, ◌↔◌, IsTrue};
+ghost use Rattle.std.specs.Prelude.{◌≡◌};
 
 use crate::expr::Expr;
 use crate::key::Key;
@@ -20,16 +20,6 @@ pub enum NameKind {
 pub struct NameDef {
     pub name: Bytes,
     pub stands_for: NameKind,
-}
-
-impl NameDef {
-    /// Whether the two are the same definition.
-    #[tactic(auto, using(crate::proofs::Equal::sames))]
-    pub fn is_same(&self, other: &NameDef) -> bool
-        ensures value { IsTrue result ↔ (self.now ≡ other.now) }
-    {
-        self == other
-    }
 }
 
 /// A copy takes memory, and equals its kind.

@@ -1,7 +1,7 @@
 //! Objects of the network and the words that name them.
 ghost use Rattle.std.specs.Prelude.{◌≡◌};
 
-/// A space of names: nodes, links or gages (own).
+/// A space of names: nodes, links or gages.
 #[derive(Clone, Copy, Debug, PartialEq, Eq)]
 pub enum Space {
     /// Junctions, outfalls, dividers and storage units.
@@ -27,7 +27,7 @@ impl Space {
     }
 }
 
-/// An object: its space, and its number there in the order of its lines, from 0 (own).
+/// An object: its space, and its number there in the order of its lines, from 0.
 #[derive(Clone, Copy, Debug, PartialEq, Eq)]
 pub struct ObjectNo {
     /// The space of the object's name.

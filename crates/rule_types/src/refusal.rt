@@ -1,11 +1,13 @@
 //! Refusals of an input file.
-ghost use Rattle.std.specs.Prelude.{◌≡◌, ◌↔◌, IsTrue};
+ghost use Rattle.std.specs.Prelude.{◌≡◌, IfOk};
+ghost use Rattle.rule_types.specs.Refusals.{earlier};
 
+use byte_edge::NoMemory;
 use list_types::Bytes;
-use std::alloc::AllocError;
+use std::alloc::{AllocError, Global};
 
-/// Why a line of the input file is refused. On one line the causes are looked for in this order, and numbered in it
-/// from 1 (own).
+/// Why a line of the input file is refused. On one line the causes are looked for in this order,
+/// and numbered in it from 1.
 #[derive(Clone, Copy, Debug, PartialEq, Eq)]
 pub enum Cause {
     LineTooLong,
@@ -34,7 +36,7 @@ pub enum Cause {
 impl Cause {
     ghost use Rattle.rule_types.specs.Causes.{cause_number};
 
-    /// The number of a cause, from 1: on one line the cause of the least number is told (own).
+    /// The number of a cause, from 1: on one line the cause of the least number is reported.
     pub fn number(self) -> u8
         ensures value { result ≡ cause_number self }
     {
@@ -42,7 +44,7 @@ impl Cause {
     }
 }
 
-/// The refusal of an input file (own).
+/// The refusal of an input file.
 #[derive(Debug, Drop, PartialEq, Eq)]
 pub struct Refusal {
     /// The line, counted from 1.
@@ -53,23 +55,70 @@ pub struct Refusal {
 }
 
 impl Refusal {
-    /// Whether the two are the same refusal.
-    #[tactic(auto, using(crate::proofs::Equal::sames))]
-    pub fn is_same(&self, other: &Refusal) -> bool
-        ensures value { IsTrue result ↔ (self.now ≡ other.now) }
+    ghost use Rattle.rule_types.specs.Refusals.{goes_before as is_before, lower as lower_of};
+
+    /// The refusal of a line, with a copy of the bytes at fault: NoMemory only where memory is out.
+    pub fn new(alloc: Global, line: u64, cause: Cause, token: &[u8]) -> Result<Refusal, NoMemory>
+        ensures value { IfOk result (λ refusal. refusal
+            ≡ record { line = line; cause = cause; token = token.now }) }
     {
-        self == other
+        let mut copy = Vec::new(alloc);
+        if copy.extend_from_slice(token).is_err() {
+            return Err(NoMemory);
+        }
+        Ok(Refusal {
+            line,
+            cause,
+            token: Bytes::from_vec(copy),
+        })
+    }
+
+    /// Whether this refusal goes before the other: it is on a lower line, or on the same line with
+    /// a cause of a lower number.
+    #[tactic(auto, unfolding(crate::specs::Refusals::goes_before))]
+    pub fn goes_before(&self, other: &Refusal) -> bool
+        ensures value { result ≡ is_before self.now other.now }
+    {
+        if self.line == other.line {
+            return self.cause.number() < other.cause.number();
+        }
+        self.line < other.line
+    }
+
+    /// The lower of two refusals: the one that goes before the other, and this one where neither
+    /// does.
+    #[tactic(auto, unfolding(crate::specs::Refusals::lower))]
+    pub fn lower(self, other: Refusal) -> Refusal
+        ensures value { result ≡ lower_of self other }
+    {
+        if other.goes_before(&self) {
+            other
+        } else {
+            self
+        }
     }
 }
 
-/// Why an input file gives no project (own).
+/// The refusal that is reported where there may be two: the lower one of those that there are.
+#[tactic(auto, unfolding(crate::specs::Refusals::earlier))]
+pub fn earlier_refusal(one: Option<Refusal>, other: Option<Refusal>) -> Option<Refusal>
+    ensures value { result ≡ earlier one other }
+{
+    match (one, other) {
+        (Some(first), Some(second)) => Some(first.lower(second)),
+        (Some(first), None) => Some(first),
+        (None, second) => second,
+    }
+}
+
+/// Why an input file gives no project.
 #[derive(Debug, Drop, PartialEq, Eq)]
 pub enum ReadFault {
     Refused(Refusal),
     NoMemory,
 }
 
-/// Why a name is not added to an index (own).
+/// Why a name is not added to an index.
 #[derive(Clone, Copy, Debug, PartialEq, Eq)]
 pub enum AddFault {
     /// The name is there.
@@ -103,9 +152,35 @@ mod tests {
             token: Items::from_vec(vec![in rt.alloc(); b'P', b'1']?),
         };
         let copy = refusal.clone()?;
-        assert!(rt; copy.is_same(&refusal));
+        assert!(rt; copy == refusal);
         assert!(rt; copy.cause.number() == 9);
         assert!(rt; copy.token.len() == 2);
+        Ok(())
+    }
+
+    #[test]
+    fn the_refusal_of_the_least_line_and_then_cause_is_reported(
+        rt: HostRuntime,
+    ) -> Result<(), AllocError> {
+        let Ok(later) = Refusal::new(rt.alloc(), 40, Cause::BadText, b"a") else {
+            return Err(AllocError);
+        };
+        let Ok(greater) = Refusal::new(rt.alloc(), 12, Cause::TooMany, b"") else {
+            return Err(AllocError);
+        };
+        let Ok(first) = Refusal::new(rt.alloc(), 12, Cause::WrongValue, b"7x") else {
+            return Err(AllocError);
+        };
+        assert!(rt; greater.goes_before(&later));
+        assert!(rt; first.goes_before(&greater));
+        let reported = earlier_refusal(earlier_refusal(None, Some(later)), Some(greater));
+        let Some(reported) = earlier_refusal(reported, Some(first)) else {
+            return Err(AllocError);
+        };
+        assert!(rt; reported.line == 12);
+        assert!(rt; reported.cause == Cause::WrongValue);
+        assert!(rt; reported.token.as_slice() == b"7x".as_slice());
+        assert!(rt; earlier_refusal(None, None).is_none());
         Ok(())
     }
 }

@@ -1,7 +1,7 @@
 //! Rules.
-ghost use Rattle.std.specs.Prelude.{◌≡◌, ◌↔◌, IsTrue};
+ghost use Rattle.std.specs.Prelude.{◌≡◌};
 
-use crate::action::Action;
+use crate::action::{Action, Branch};
 use crate::condition::Condition;
 use exact_fraction::frac::Frac;
 use list_types::{Bytes, Items};
@@ -19,12 +19,16 @@ pub struct Rule {
 }
 
 impl Rule {
-    /// Whether the two are the same rule.
-    #[tactic(auto, using(crate::proofs::Equal::sames))]
-    pub fn is_same(&self, other: &Rule) -> bool
-        ensures value { IsTrue result ↔ (self.now ≡ other.now) }
+    ghost use Rattle.rule_types.specs.Reading.{branch_actions};
+
+    /// The actions of one of the rule's branches.
+    pub fn actions(&self, branch: Branch) -> &Items<Action>
+        ensures value { result.now ≡ branch_actions self.now branch }
     {
-        self == other
+        match branch {
+            Branch::Then => &self.then_actions,
+            Branch::Otherwise => &self.else_actions,
+        }
     }
 }
 

@@ -1,6 +1,8 @@
 //! All rules of a file.
-ghost use Rattle.std.specs.Prelude.{◌≡◌, ◌↔◌, IsTrue, IfOk};
+ghost use Rattle.std.specs.Prelude.{◌≡◌, IfOk};
+ghost use Rattle.std.specs.Option.{option_copied};
 
+use crate::action::{Action, ActionAt};
 use crate::key::Key;
 use crate::names::NameDef;
 use crate::rule::Rule;
@@ -10,7 +12,7 @@ use exact_fraction::moment::Moment;
 use list_types::Items;
 use std::alloc::{AllocError, Global};
 
-/// The rules of a file with their names, and the keys and links that they read and act on (own).
+/// The rules of a file with their names, and the keys and links that they read and act on.
 #[derive(Debug, Drop, PartialEq, Eq)]
 pub struct Rules {
     /// The rules in the order of the file.
@@ -19,7 +21,8 @@ pub struct Rules {
     pub names: Items<NameDef>,
     /// The keys that are read from the trace, in key order.
     pub input_keys: Items<Key>,
-    /// The links that an action acts on, or whose setting, status or timers are read, in link order.
+    /// The links that an action acts on, or whose setting, status or timers are read, in link
+    /// order.
     pub tracked: Items<u32>,
     /// The links that an action acts on, in link order.
     pub controlled: Items<u32>,
@@ -59,15 +62,19 @@ impl Clone for Rules {
 }
 
 impl Rules {
-    /// Whether the two are the same rules.
-    #[tactic(auto, using(crate::proofs::Equal::sames))]
-    pub fn is_same(&self, other: &Rules) -> bool
-        ensures value { IsTrue result ↔ (self.now ≡ other.now) }
+    ghost use Rattle.rule_types.specs.Reading.{action_at as action_of};
+
+    /// The action at a place, or None where there is no such action.
+    #[tactic(auto, unfolding(crate::specs::Reading::action_at))]
+    pub fn action_at(&self, at: &ActionAt) -> Option<&Action>
+        ensures value { option_copied result ≡ action_of self.now.rules at.now }
     {
-        self == other
+        let rule = self.rules.get(at.rule as usize)?;
+        rule.actions(at.branch).get(at.action as usize)
     }
 
-    /// Rules that equal these: NoMemory only where memory is wanting. It costs time by the size of the rules.
+    /// Rules that equal these: NoMemory only where memory is wanting. It costs time by the size of
+    /// the rules.
     pub fn copy(&self, _alloc: Global) -> Result<Rules, NoMemory>
         ensures value { IfOk result (λ copy. copy ≡ self.now) }
     {
@@ -81,7 +88,7 @@ impl Rules {
 #[cfg(test)]
 mod tests {
     use super::*;
-    use crate::action::{Action, What};
+    use crate::action::{Branch, What};
     use crate::condition::{Condition, Right, Side};
     use crate::expr::Expr;
     use crate::names::NameKind;
@@ -157,9 +164,29 @@ mod tests {
         let Ok(copy) = rules.copy(rt.alloc()) else {
             return Err(AllocError);
         };
-        assert!(rt; copy.is_same(&rules));
+        assert!(rt; copy == rules);
         assert!(rt; copy.rules.len() == 1);
         assert!(rt; copy.names.len() == 1);
+        Ok(())
+    }
+
+    #[test]
+    fn an_action_is_found_at_its_place(rt: HostRuntime) -> Result<(), AllocError> {
+        let listed = Items::from_vec(vec![in rt.alloc(); full_rule(rt.alloc())?]?);
+        let rules = rules_of(rt.alloc(), listed, Items::new(rt.alloc()));
+        let mut at = ActionAt {
+            rule: 0,
+            branch: Branch::Otherwise,
+            action: 0,
+        };
+        let Some(action) = rules.action_at(&at) else {
+            return Err(AllocError);
+        };
+        assert!(rt; *action == set_link(Frac::zero()));
+        at.action = 1;
+        assert!(rt; rules.action_at(&at).is_none());
+        at.rule = 1;
+        assert!(rt; rules.action_at(&at).is_none());
         Ok(())
     }
 
@@ -167,7 +194,7 @@ mod tests {
     fn a_copied_formula_equals_it(rt: HostRuntime) -> Result<(), AllocError> {
         let formula = Expr::Neg(Boxed::new(rt.alloc(), Expr::Number(Frac::one()))?);
         let copy = formula.clone()?;
-        assert!(rt; copy.is_same(&formula));
+        assert!(rt; copy == formula);
         assert!(rt; copy != Expr::Name(0));
         Ok(())
     }

@@ -1,12 +1,12 @@
 //! States of the network, at which rules are read.
-ghost use Rattle.std.specs.Prelude.{◌≡◌, ◌↔◌, IsTrue};
+ghost use Rattle.std.specs.Prelude.{◌≡◌};
 
 use exact_fraction::frac::Frac;
 use exact_fraction::moment::Moment;
 use list_types::Items;
 use std::alloc::AllocError;
 
-/// The state of a tracked link (own).
+/// The state of a tracked link.
 #[derive(Clone, Copy, Debug, PartialEq, Eq)]
 pub struct LinkState {
     pub setting: Frac,
@@ -16,27 +16,17 @@ pub struct LinkState {
     pub timer: Frac,
 }
 
-/// A state at which rules are read (own).
+/// A state at which rules are read.
 #[derive(Debug, Drop, PartialEq, Eq)]
 pub struct State {
     pub moment: Moment,
     pub start: Moment,
-    /// The time since the last reading, in seconds.
+    /// The time since the last row that was due, in seconds; at the first row ROUTING_STEP.
     pub step: Frac,
     /// The number of each input key, or None where it is missing.
     pub inputs: Items<Option<Frac>>,
     /// The state of each tracked link.
     pub links: Items<LinkState>,
-}
-
-impl State {
-    /// Whether the two are the same state.
-    #[tactic(auto, using(crate::proofs::Equal::sames))]
-    pub fn is_same(&self, other: &State) -> bool
-        ensures value { IsTrue result ↔ (self.now ≡ other.now) }
-    {
-        self == other
-    }
 }
 
 /// A copy takes memory, and equals its state.
@@ -77,7 +67,7 @@ mod tests {
             links: Items::from_vec(vec![in rt.alloc(); link]?),
         };
         let copy = state.clone()?;
-        assert!(rt; copy.is_same(&state));
+        assert!(rt; copy == state);
         assert!(rt; copy.inputs.len() == 2);
         Ok(())
     }

@@ -1,9 +1,7 @@
 //! Stops: readings that have no result.
-ghost use Rattle.std.specs.Prelude.{◌≡◌, ◌↔◌, IsTrue};
-
 use crate::action::ActionAt;
 
-/// Why a reading stops (own).
+/// Why a reading stops.
 #[derive(Clone, Copy, Debug, PartialEq, Eq)]
 pub enum StopCause {
     /// A result does not fit.
@@ -12,7 +10,7 @@ pub enum StopCause {
     ZeroDivisor,
 }
 
-/// Where a reading stops (own).
+/// Where a reading stops.
 #[derive(Clone, Copy, Debug, PartialEq, Eq)]
 pub enum StopPlace {
     /// At the used name of this place among the names.
@@ -21,31 +19,21 @@ pub enum StopPlace {
     Action(ActionAt),
 }
 
-/// The first place at which a reading has no result, and why (own).
+/// The first place at which a reading has no result, and why.
 #[derive(Clone, Copy, Debug, PartialEq, Eq)]
 pub struct Stop {
     pub place: StopPlace,
     pub cause: StopCause,
 }
 
-impl Stop {
-    /// Whether the two are the same stop.
-    #[tactic(auto, using(crate::proofs::Equal::sames))]
-    pub fn is_same(&self, other: &Stop) -> bool
-        ensures value { IsTrue result ↔ (self.now ≡ other.now) }
-    {
-        self == other
-    }
-}
-
-/// Why the reading of one state gives no orders (own).
+/// Why the reading of one state gives no orders.
 #[derive(Clone, Copy, Debug, PartialEq, Eq)]
 pub enum ReadingEnd {
     Stop(Stop),
     NoMemory,
 }
 
-/// Why a row of a replay gives no settings (own).
+/// Why a row of a replay gives no settings.
 #[derive(Clone, Copy, Debug, PartialEq, Eq)]
 pub enum RowStop {
     /// The reading of this row stops.

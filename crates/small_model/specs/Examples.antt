@@ -7,21 +7,21 @@ use Rattle.small_model.specs.declared.refusal.Cause.TheVariants.{BadClause, Unkn
 use Rattle.exact_fraction.specs.Number.{whole}
 use Rattle.exact_fraction.specs.declared.relation.Relation.TheVariants.{Le, Gt}
 
--- one junction and two pumps (own)
+-- one junction and two pumps
 abbrev pub objects : List Line
 objects =
     Some (codes "[JUNCTIONS]") ∷ Some (codes "N1") ∷ Some (codes "[PUMPS]")
     ∷ Some (codes "N1A N1 N2 * OFF") ∷ Some (codes "N1B N1 N2 * OFF") ∷ []
 
--- a rule of this condition that turns the pump N1A on (own)
+-- a rule of this condition that turns the pump N1A on
 abbrev pub rule_on : List ℕ → List Line
 rule_on condition = Some (codes "RULE R3A") ∷ Some condition ∷ Some (codes "THEN PUMP N1A STATUS = ON") ∷ []
 
--- a file of the objects and these lines under [CONTROLS] (own)
+-- a file of the objects and these lines under [CONTROLS]
 abbrev pub with_controls : List Line → List Line
 with_controls lines = objects ++ Some (codes "[CONTROLS]") ∷ lines
 
--- two pumps, each turned on above a depth and off at a low one (own)
+-- two pumps, each turned on above a depth and off at a low one
 abbrev pub two_pumps : List Line
 two_pumps = with_controls (rule_on (codes "IF NODE N1 DEPTH > 5") ++
     Some (codes "RULE R3B") ∷ Some (codes "IF NODE N1 DEPTH > 7") ∷ Some (codes "THEN PUMP N1B STATUS = ON")
@@ -39,7 +39,7 @@ two_pumps_say = record {
       ∷ record { rel = Le; value = whole (pos 3); pump = 1; on = false } ∷ [];
 }
 
--- a rule that goes on after lines of another section (own)
+-- a rule that goes on after lines of another section
 abbrev pub rule_apart : List Line
 rule_apart = with_controls (Some (codes "RULE R3A") ∷ Some (codes "[PUMPS]") ∷ Some (codes "N1C N1 N2 * ON") ∷ Some (codes "[CONTROLS]")
     ∷ Some (codes "IF NODE N1 DEPTH > 5") ∷ Some (codes "THEN PUMP N1A STATUS = ON") ∷ [])
@@ -52,7 +52,7 @@ rule_apart_says = record {
 }
 
 -- files that are refused: an unknown node, a wrong attribute, an end in a rule, no line, and an unknown node before a line
--- without a form (own)
+-- without a form
 abbrev pub unknown_node : List Line
 unknown_node = with_controls (rule_on (codes "IF NODE N9 DEPTH > 5"))
 
@@ -65,7 +65,7 @@ cut_off = with_controls (Some (codes "RULE R3A") ∷ Some (codes "IF NODE N1 DEP
 abbrev pub unknown_first : List Line
 unknown_first = with_controls (rule_on (codes "IF NODE N9 DEPTH > 5") ++ Some (codes "rule R3B") ∷ [])
 
--- what these examples come to (own)
+-- what these examples come to
 pub record AreExamples : Type 0 where
   pub accepted : refusal_of two_pumps ≡ None
   pub says : model_of two_pumps ≡ two_pumps_say

@@ -7,14 +7,14 @@ use Rattle.small_model.specs.declared.section.Section.{Section}
 use Rattle.small_model.specs.declared.section.Section.TheVariants.{Junctions, Pumps}
 use Rattle.small_model.specs.declared.names.FileNames.{FileNames}
 
--- the names on the lines of [JUNCTIONS] and of [PUMPS] among these lines (own)
+-- the names on the lines of [JUNCTIONS] and of [PUMPS] among these lines
 abbrev pub names_so_far : List Line → FileNames
 names_so_far earlier = record {
   junctions = names_of (section_lines Junctions earlier);
   pumps = names_of (section_lines Pumps earlier);
 }
 
--- what one more line adds, for the code that goes over the lines (own)
+-- what one more line adds, for the code that goes over the lines
 abbrev pub names_with : Option Section → FileNames → List ℕ → FileNames
 names_with (Some Junctions) names name = record names { junctions = with_name names.junctions name }
 names_with (Some Pumps) names name = record names { pumps = with_name names.pumps name }

@@ -6,32 +6,32 @@ use Rattle.small_model.specs.Lines.{item, is_word}
 use Rattle.exact_fraction.specs.declared.relation.Relation.{Relation}
 use Rattle.exact_fraction.specs.declared.relation.Relation.TheVariants.{Eq, Ne, Lt, Le, Gt, Ge}
 
--- a byte from the first to the last (own)
+-- a byte from the first to the last
 abbrev pub is_from_to : ℕ → ℕ → ℕ → Bool
 is_from_to first last byte = nat_le first byte && nat_le byte last
 
--- a digit: `0` to `9` (own)
+-- a digit: `0` to `9`
 abbrev pub is_digit : ℕ → Bool
 is_digit byte = is_from_to 48 57 byte
 
--- a byte of a name: a letter, a digit or `_` (own)
+-- a byte of a name: a letter, a digit or `_`
 unfoldable pub is_name_byte : ℕ → Bool
 is_name_byte byte = is_from_to 65 90 byte || is_from_to 97 122 byte || is_digit byte || (byte == 95)
 
--- a name: one byte of a name or more (own)
+-- a name: one byte of a name or more
 unfoldable pub is_name : List ℕ → Bool
 is_name word = not (length word == 0) && list_all is_name_byte word
 
--- a whole number of 1 to 9 digits (own)
+-- a whole number of 1 to 9 digits
 unfoldable pub is_count : List ℕ → Bool
 is_count word = not (length word == 0) && nat_le (length word) 9 && list_all is_digit word
 
--- the number that digits write after those of `count` (own)
+-- the number that digits write after those of `count`
 abbrev pub count_after : ℕ → List ℕ → ℕ
 count_after count [] = count
 count_after count (digit ∷ digits) = count_after (10 * count + (digit - 48)) digits
 
--- the number that digits write (own)
+-- the number that digits write
 abbrev pub count_of : List ℕ → ℕ
 count_of digits = count_after 0 digits
 
@@ -49,7 +49,7 @@ relation_of word =
 unfoldable pub status_of : List ℕ → Option Bool
 status_of word = if bytes_eq word (codes "ON") then Some true else (if bytes_eq word (codes "OFF") then Some false else None)
 
--- a junction: its name (own)
+-- a junction: its name
 unfoldable pub is_junction : List (List ℕ) → Bool
 is_junction items = (length items == 1) && is_name (item items 0)
 

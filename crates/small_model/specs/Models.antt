@@ -12,18 +12,18 @@ use Rattle.exact_fraction.specs.Number.{whole}
 use Rattle.exact_fraction.specs.declared.relation.Relation.{Relation}
 use Rattle.exact_fraction.specs.declared.relation.Relation.TheVariants.{Eq}
 
--- a pump: its name, and whether it is on (own)
+-- a pump: its name, and whether it is on
 pub record PumpText : Type 0 where
   pub name : List ℕ
   pub on : Bool
 
--- a file's junction, its pumps and its rules, in the order of their lines (own)
+-- a file's junction, its pumps and its rules, in the order of their lines
 pub record Contents : Type 0 where
   pub junction : List ℕ
   pub pumps : List PumpText
   pub rules : List FirstRule
 
--- what a pump and a model hold (own)
+-- what a pump and a model hold
 abbrev pub pump_text : Pump → PumpText
 pump_text pump = record { name = pump.name.items; on = pump.on }
 
@@ -34,25 +34,25 @@ contents_of model = record {
   rules = model.rules.items;
 }
 
--- the name on the newest of these lines, which are listed newest first (own)
+-- the name on the newest of these lines, which are listed newest first
 abbrev pub newest_name : List (List (List ℕ)) → Option (List ℕ)
 newest_name [] = None
 newest_name (line ∷ older) = Some (item line 0)
 
--- whether a word is ON (own)
+-- whether a word is ON
 abbrev pub is_on : List ℕ → Bool
 is_on word = unwrap_or (status_of word) false
 
--- the pump of a line (own)
+-- the pump of a line
 abbrev pub pump_of : List (List ℕ) → PumpText
 pump_of line = record { name = item line 0; on = is_on (item line 4) }
 
--- the pumps of these lines, which are listed newest first: the earliest first (own)
+-- the pumps of these lines, which are listed newest first: the earliest first
 abbrev pub pumps_of : List (List (List ℕ)) → List PumpText
 pumps_of [] = []
 pumps_of (line ∷ older) = pumps_of older ++ pump_of line ∷ []
 
--- the part of a rule that comes after these control lines: a head, a condition, an action, and round again (own)
+-- the part of a rule that comes after these control lines: a head, a condition, an action, and round again
 abbrev pub part_after : Part → Part
 part_after Head = Condition
 part_after Condition = Action
@@ -62,7 +62,7 @@ abbrev pub part_due : List (List (List ℕ)) → Part
 part_due [] = Head
 part_due (line ∷ older) = part_after (part_due older)
 
--- the newest condition of these control lines, which are listed newest first (own)
+-- the newest condition of these control lines, which are listed newest first
 abbrev pub condition_at : Part → List (List ℕ) → List (List ℕ) → List (List ℕ)
 condition_at Condition line before = line
 condition_at _ line before = before
@@ -71,14 +71,14 @@ abbrev pub newest_condition : List (List (List ℕ)) → List (List ℕ)
 newest_condition [] = []
 newest_condition (line ∷ older) = condition_at (part_due older) line (newest_condition older)
 
--- the relation and the number of a condition (own)
+-- the relation and the number of a condition
 abbrev pub relation_in : List (List ℕ) → Relation
 relation_in condition = unwrap_or (relation_of (item condition 4)) Eq
 
 abbrev pub count_in : List (List ℕ) → ℕ
 count_in condition = count_of (item condition 5)
 
--- the rule of a condition and an action, where the pumps have these names (own)
+-- the rule of a condition and an action, where the pumps have these names
 abbrev pub rule_of : List (List ℕ) → Relation → ℕ → List (List ℕ) → FirstRule
 rule_of pump_names relation count action = record {
   rel = relation;
@@ -87,12 +87,12 @@ rule_of pump_names relation count action = record {
   on = is_on (item action 5);
 }
 
--- the rules, and after them the one that a control line ends, where it is an action (own)
+-- the rules, and after them the one that a control line ends, where it is an action
 abbrev pub rules_at : Part → List FirstRule → FirstRule → List FirstRule
 rules_at Action rules rule = rules ++ rule ∷ []
 rules_at _ rules rule = rules
 
--- the rules of these control lines, which are listed newest first: the earliest rule first (own)
+-- the rules of these control lines, which are listed newest first: the earliest rule first
 abbrev pub rules_of : List (List ℕ) → List (List (List ℕ)) → List FirstRule
 rules_of pump_names [] = []
 rules_of pump_names (line ∷ older) =

@@ -14,7 +14,7 @@ use Rattle.small_model.specs.declared.names.FileNames.{FileNames}
 use Rattle.plain_reader.specs.declared.FirstRule.{FirstRule}
 use Rattle.exact_fraction.specs.declared.relation.Relation.{Relation}
 
--- what the lines so far say (own)
+-- what the lines so far say
 pub record Standing : Type 0 where
   -- the section that the next line stands in
   pub section : Option Section
@@ -32,12 +32,12 @@ pub record Standing : Type 0 where
   -- the whole rules
   pub rules : List FirstRule
 
--- whether there is a line (own)
+-- whether there is a line
 abbrev pub has_line : List (List (List ℕ)) → Bool
 has_line [] = false
 has_line (line ∷ older) = true
 
--- what these lines say, in a file whose junctions and pumps have these names (own)
+-- what these lines say, in a file whose junctions and pumps have these names
 abbrev pub standing : FileNames → List Line → Standing
 standing names earlier =
     let controls = section_lines Controls earlier in
@@ -53,14 +53,14 @@ standing names earlier =
       rules = rules_of names.pumps controls;
     }
 
--- the control line has the form of this part of a rule (own)
+-- the control line has the form of this part of a rule
 abbrev pub is_part : Part → List (List ℕ) → Bool
 is_part Head items = is_head items
 is_part Condition items = is_condition items
 is_part Action items = is_action items
 
 -- a content line has a form that is allowed after the lines before it: no line does before the first heading, the only
--- junction, a pump whose name is new, and the part of a rule that is due (own)
+-- junction, a pump whose name is new, and the part of a rule that is due
 abbrev pub has_form_in : Option Section → Standing → List (List ℕ) → Bool
 has_form_in None before items = false
 has_form_in (Some Junctions) before items = is_none before.junction && is_junction items
@@ -70,7 +70,7 @@ has_form_in (Some Controls) before items = is_part before.part items
 abbrev pub has_form : Standing → List (List ℕ) → Bool
 has_form before items = has_form_in before.section before items
 
--- a condition names no junction, or an action no pump (own)
+-- a condition names no junction, or an action no pump
 abbrev pub is_unknown_at : Part → FileNames → List (List ℕ) → Bool
 is_unknown_at Head names items = false
 is_unknown_at Condition names items = not (is_among (item items 2) names.junctions)
@@ -83,16 +83,16 @@ is_unknown_in _ names before items = false
 abbrev pub is_unknown : FileNames → Standing → List (List ℕ) → Bool
 is_unknown names before items = is_content items && is_unknown_in before.section names before items
 
--- a rule is going on (own)
+-- a rule is going on
 abbrev pub is_going_on : Part → Bool
 is_going_on Head = false
 is_going_on _ = true
 
--- a file of these lines ends early: it has no junction, no rule, or its last rule is not whole (own)
+-- a file of these lines ends early: it has no junction, no rule, or its last rule is not whole
 abbrev pub ends_early : Standing → Bool
 ends_early all = is_none all.junction || not all.begun || is_going_on all.part
 
--- What one more line adds, for the code that goes over the lines (own).
+-- What one more line adds, for the code that goes over the lines.
 abbrev pub part_next : Part → FileNames → Standing → List (List ℕ) → Standing
 part_next Head names before items = record before { part = Condition; begun = true }
 part_next Condition names before items = record before {
@@ -124,15 +124,15 @@ line_next None names before items =
 abbrev pub next : FileNames → Standing → List (List ℕ) → Standing
 next names before items = line_next (heading items) names before items
 
--- a line that is added has a form that is allowed there, or is no content (own)
+-- a line that is added has a form that is allowed there, or is no content
 abbrev pub has_form_or_none : Standing → List (List ℕ) → Type 0
 has_form_or_none before items = IsTrue (is_content items) → IsTrue (has_form before items)
 
--- no names (own)
+-- no names
 abbrev pub no_names : FileNames
 no_names = record { junctions = []; pumps = [] }
 
--- what a draft holds (own)
+-- what a draft holds
 abbrev pub seen : Draft → Standing
 seen draft = record {
   section = draft.section;

@@ -1,5 +1,5 @@
 //! The small form of an input file: one junction, pumps, and rules of three lines. It serves until the whole grammar is
-//! read (own).
+//! read.
 #![tactic(auto)]
 
 mod draft;

@@ -20,7 +20,7 @@ pub struct Pump {
     pub on: bool,
 }
 
-/// What an input file says: its junction, its pumps and its rules, in the order of their lines (own).
+/// What an input file says: its junction, its pumps and its rules, in the order of their lines.
 #[derive(Debug, Drop)]
 pub struct SmallModel {
     /// The junction's name.
@@ -32,7 +32,7 @@ pub struct SmallModel {
 }
 
 /// Reads the small form of an input file: exactly one line under `[JUNCTIONS]`, pumps whose names differ, and one rule of
-/// three lines or more. A line is `None` where it is too long. It takes time in proportion to the file (own).
+/// three lines or more. A line is `None` where it is too long. It takes time in proportion to the file.
 ///
 /// A refusal tells the first line with a fault. There is no memory too where the file has 2^32 pumps or more.
 pub fn read_model(alloc: Global, lines: &[Option<Vec<u8>>]) -> Result<SmallModel, ModelEnd>

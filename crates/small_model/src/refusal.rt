@@ -9,7 +9,7 @@ use byte_edge::NoMemory;
 use inp_text::Span;
 use std::alloc::Global;
 
-/// What is wrong with a line (own).
+/// What is wrong with a line.
 #[derive(Clone, Copy, Debug, PartialEq, Eq)]
 pub enum Cause {
     /// The line has no form that is allowed there, or the file ends early.
@@ -19,7 +19,7 @@ pub enum Cause {
 }
 
 impl Cause {
-    /// The cause's number (own).
+    /// The cause's number.
     pub fn number(self) -> u8
         ensures { result ≡ number_of self }
     {
@@ -29,7 +29,7 @@ impl Cause {
         }
     }
 
-    /// The cause's name (own).
+    /// The cause's name.
     pub fn name(self) -> &'static str
         ensures { result.now ≡ name_of self }
     {
@@ -96,7 +96,7 @@ impl Fault {
     }
 }
 
-/// The line that is refused, and why (own).
+/// The line that is refused, and why.
 #[derive(Debug, Drop)]
 pub struct Refusal {
     /// The line's number, from 1, and 0 where the file has no line.
@@ -107,7 +107,7 @@ pub struct Refusal {
     pub token: Option<Vec<u8>>,
 }
 
-/// Why there is no model (own).
+/// Why there is no model.
 #[derive(Debug, Drop)]
 pub enum ModelEnd {
     /// The file does not have the small form.

@@ -1,13 +1,13 @@
 -- What a run leaves that ends with a complaint.
 use Rattle.std.proofs.Common.{◌≡◌, ◌≢◌, ℕ, true, false, List, Option, Some, Err, refl, sym, ◌∙◌, subst, ◌⊎◌, inl, inr, MatchOption, IsTrue}
 use Rattle.std.specs.Io.KnownBytes.{Appends}
-use Rattle.byte_edge.specs.Devices.{Rose, AppendsPrefix}
+use Rattle.byte_edge.specs.Devices.{CountIncreased, AppendsPrefix}
 use Rattle.swmm_rules.specs.declared.complaint.Role.TheVariants as role
 use Rattle.swmm_rules.specs.declared.complaint.Complaint.{Complaint}
-use Rattle.swmm_rules.specs.declared.complaint.Complaint.TheVariants.{Usage, Refused, TooLong, Trace, ReadFailed, WriteFailed, OutOfMemory}
+use Rattle.swmm_rules.specs.declared.complaint.Complaint.TheVariants.{Refused, TooLong, Trace, ReadFailed, WriteFailed, OutOfMemory}
 use Rattle.swmm_rules.specs.declared.status.Status.{Status}
 use Rattle.swmm_rules.specs.declared.status.Status.TheVariants as status
-use Rattle.swmm_rules.specs.Says.{said_of}
+use Rattle.swmm_rules.specs.Says.{said_of, usage_line}
 use Rattle.swmm_rules.specs.Runs.{WritesFirst, WritesFront, Replays, Says, status_of}
 use Rattle.swmm_rules.specs.Steps.{Comes, CountsOf, Complains, AllKept, Tells, takes_memory}
 use Rattle.swmm_rules.proofs.Runs.{prefix_of_first, first_of_whole, first_of_interrupted}
@@ -19,14 +19,13 @@ front_of_first input trace was now failed first = record { prefix = prefix_of_fi
 -- what is written before a complaint
 front_of : (input trace : List ℕ) (slot1 left0 left1 was now : Option (List ℕ)) (files_was files_now : ℕ → ℕ) (count_was count_now : ℕ) (c : Complaint)
     → Comes input trace slot1 left0 left1 was now (Err c) → CountsOf files_was files_now count_was count_now (Err c)
-    → WritesFront input trace was now (Rose count_was count_now)
+    → WritesFront input trace was now (CountIncreased count_was count_now)
 front_of input trace slot1 left0 left1 was now fw fn cw cn (Refused refusal) p k = front_of_first input trace was now _ (first_of_whole input trace was now p.0.1)
 front_of input trace slot1 left0 left1 was now fw fn cw cn (TooLong r) p k = front_of_first input trace was now _ (first_of_whole input trace was now p.0.1)
 front_of input trace slot1 left0 left1 was now fw fn cw cn (Trace line cause) p k = front_of_first input trace was now _ (first_of_whole input trace was now p.0.1)
 front_of input trace slot1 left0 left1 was now fw fn cw cn (ReadFailed r) p k = front_of_first input trace was now _ (first_of_interrupted input trace slot1 left1 was now p)
 front_of input trace slot1 left0 left1 was now fw fn cw cn WriteFailed p k = record { prefix = p; lines = inl k }
 front_of input trace slot1 left0 left1 was now fw fn cw cn OutOfMemory p k = front_of_first input trace was now _ p
-front_of input trace slot1 left0 left1 was now fw fn cw cn Usage p k = absurd p
 
 -- the same, where the complaint's text takes memory
 front_in_memory : (input trace : List ℕ) (slot1 left0 left1 was now : Option (List ℕ)) (c : Complaint)
@@ -37,7 +36,6 @@ front_in_memory input trace slot1 left0 left1 was now (TooLong r) m p = absurd (
 front_in_memory input trace slot1 left0 left1 was now (ReadFailed r) m p = absurd (let e : false ≡ true = m in cc)
 front_in_memory input trace slot1 left0 left1 was now WriteFailed m p = absurd (let e : false ≡ true = m in cc)
 front_in_memory input trace slot1 left0 left1 was now OutOfMemory m p = absurd (let e : false ≡ true = m in cc)
-front_in_memory input trace slot1 left0 left1 was now Usage m p = absurd (let e : false ≡ true = m in cc)
 
 said_line : (complaint : Option (List ℕ)) (line : List ℕ) (was now : Option (List ℕ)) → complaint ≡ Some line → Appends was now line
     → MatchOption complaint ⊥ (λ told. Appends was now told)
@@ -46,7 +44,7 @@ said_line complaint line was now is said = let P : Option (List ℕ) → Type 0 
 -- the complaint was said with its status
 replays_said : (input trace : List ℕ) (slot1 left0 left1 was now err_was err_now : Option (List ℕ)) (files_was files_now : ℕ → ℕ) (count_was count_now : ℕ) (err_failed : Type 0) (c : Complaint)
     → Comes input trace slot1 left0 left1 was now (Err c) → CountsOf files_was files_now count_was count_now (Err c) → Appends err_was err_now (said_of c)
-    → Replays input trace slot1 left0 left1 was now err_was err_now (Rose count_was count_now) err_failed (status_of c)
+    → Replays input trace slot1 left0 left1 was now err_was err_now (CountIncreased count_was count_now) err_failed (status_of c)
 replays_said input trace slot1 left0 left1 was now ew en fw fn cw cn failed (Refused refusal) p k said = (said_line _ _ ew en p.0.0 said, p.0.1, p.1)
 replays_said input trace slot1 left0 left1 was now ew en fw fn cw cn failed (TooLong r) p k said = (said_line _ _ ew en p.0.0 said, p.0.1, p.1)
 replays_said input trace slot1 left0 left1 was now ew en fw fn cw cn failed (Trace line cause) p k said = (said_line _ _ ew en p.0.0 said, p.0.1, p.1)
@@ -54,54 +52,52 @@ replays_said input trace slot1 left0 left1 was now ew en fw fn cw cn failed (Rea
     (front_of_first input trace was now _ (first_of_interrupted input trace slot1 left1 was now p), inr (inr p))
 replays_said input trace slot1 left0 left1 was now ew en fw fn cw cn failed WriteFailed p k said = (record { prefix = p; lines = inl k }, inl k)
 replays_said input trace slot1 left0 left1 was now ew en fw fn cw cn failed OutOfMemory p k said = front_of_first input trace was now _ p
-replays_said input trace slot1 left0 left1 was now ew en fw fn cw cn failed Usage p k said = absurd p
 
 pub complained_replays : (input trace : List ℕ) (slot1 left0 left1 was now err_was err_now : Option (List ℕ)) (files_was files_now : ℕ → ℕ) (count_was count_now err_count_was err_count_now : ℕ) (c : Complaint) (result : Status)
     → Comes input trace slot1 left0 left1 was now (Err c) → CountsOf files_was files_now count_was count_now (Err c) → Complains c err_was err_now err_count_was err_count_now result
-    → Replays input trace slot1 left0 left1 was now err_was err_now (Rose count_was count_now) (Rose err_count_was err_count_now) result
+    → Replays input trace slot1 left0 left1 was now err_was err_now (CountIncreased count_was count_now) (CountIncreased err_count_was err_count_now) result
 complained_replays input trace slot1 left0 left1 was now ew en fw fn cw cn ecw ecn c result p k (inl (inl t)) =
-    let P : Status → Type 0 = λ s. Replays input trace slot1 left0 left1 was now ew en (Rose cw cn) (Rose ecw ecn) s in
-    subst P (sym t.0) (replays_said input trace slot1 left0 left1 was now ew en fw fn cw cn (Rose ecw ecn) c p k t.1)
+    let P : Status → Type 0 = λ s. Replays input trace slot1 left0 left1 was now ew en (CountIncreased cw cn) (CountIncreased ecw ecn) s in
+    subst P (sym t.0) (replays_said input trace slot1 left0 left1 was now ew en fw fn cw cn (CountIncreased ecw ecn) c p k t.1)
 complained_replays input trace slot1 left0 left1 was now ew en fw fn cw cn ecw ecn c result p k (inl (inr t)) =
-    let P : Status → Type 0 = λ s. Replays input trace slot1 left0 left1 was now ew en (Rose cw cn) (Rose ecw ecn) s in
+    let P : Status → Type 0 = λ s. Replays input trace slot1 left0 left1 was now ew en (CountIncreased cw cn) (CountIncreased ecw ecn) s in
     subst P (sym t.0) (front_of input trace slot1 left0 left1 was now fw fn cw cn c p k, inr (inl t.2))
 complained_replays input trace slot1 left0 left1 was now ew en fw fn cw cn ecw ecn c result p k (inr (m, inl t)) =
-    let P : Status → Type 0 = λ s. Replays input trace slot1 left0 left1 was now ew en (Rose cw cn) (Rose ecw ecn) s in
+    let P : Status → Type 0 = λ s. Replays input trace slot1 left0 left1 was now ew en (CountIncreased cw cn) (CountIncreased ecw ecn) s in
     subst P (sym t.0) (front_in_memory input trace slot1 left0 left1 was now c m p)
 complained_replays input trace slot1 left0 left1 was now ew en fw fn cw cn ecw ecn c result p k (inr (m, inr t)) =
-    let P : Status → Type 0 = λ s. Replays input trace slot1 left0 left1 was now ew en (Rose cw cn) (Rose ecw ecn) s in
+    let P : Status → Type 0 = λ s. Replays input trace slot1 left0 left1 was now ew en (CountIncreased cw cn) (CountIncreased ecw ecn) s in
     subst P (sym t.0) (front_of input trace slot1 left0 left1 was now fw fn cw cn c p k, inr (inl t.2))
 
 says_said : (files_was files_now : ℕ → ℕ) (count_was count_now : ℕ) (err_failed : Type 0) (was now : Option (List ℕ)) (c : Complaint)
     → CountsOf files_was files_now count_was count_now (Err c) → Appends was now (said_of c)
-    → Says files_was files_now (Rose count_was count_now) err_failed was now (status_of c)
+    → Says files_was files_now (CountIncreased count_was count_now) err_failed was now (status_of c)
 says_said fw fn cw cn failed was now (Refused refusal) k said = (Refused refusal, refl, said)
 says_said fw fn cw cn failed was now (TooLong r) k said = (TooLong r, refl, said)
 says_said fw fn cw cn failed was now (Trace line cause) k said = (Trace line cause, refl, said)
 says_said fw fn cw cn failed was now (ReadFailed r) k said = inl (r, k, said)
 says_said fw fn cw cn failed was now WriteFailed k said = inr (inl (k, said))
 says_said fw fn cw cn failed was now OutOfMemory k said = said
-says_said fw fn cw cn failed was now Usage k said = said
 
 pub complained_says : (files_was files_now : ℕ → ℕ) (count_was count_now err_count_was err_count_now : ℕ) (was now : Option (List ℕ)) (c : Complaint) (result : Status)
     → CountsOf files_was files_now count_was count_now (Err c) → Complains c was now err_count_was err_count_now result
-    → Says files_was files_now (Rose count_was count_now) (Rose err_count_was err_count_now) was now result
+    → Says files_was files_now (CountIncreased count_was count_now) (CountIncreased err_count_was err_count_now) was now result
 complained_says fw fn cw cn ecw ecn was now c result k (inl (inl t)) =
-    let P : Status → Type 0 = λ s. Says fw fn (Rose cw cn) (Rose ecw ecn) was now s in
-    subst P (sym t.0) (says_said fw fn cw cn (Rose ecw ecn) was now c k t.1)
+    let P : Status → Type 0 = λ s. Says fw fn (CountIncreased cw cn) (CountIncreased ecw ecn) was now s in
+    subst P (sym t.0) (says_said fw fn cw cn (CountIncreased ecw ecn) was now c k t.1)
 complained_says fw fn cw cn ecw ecn was now c result k (inl (inr t)) =
-    let P : Status → Type 0 = λ s. Says fw fn (Rose cw cn) (Rose ecw ecn) was now s in
-    subst P (sym t.0) (inr (inr (t.2, (c, t.1))))
+    let P : Status → Type 0 = λ s. Says fw fn (CountIncreased cw cn) (CountIncreased ecw ecn) was now s in
+    subst P (sym t.0) (inr (inr (t.2, inr (c, t.1))))
 complained_says fw fn cw cn ecw ecn was now c result k (inr (m, inl t)) =
-    let P : Status → Type 0 = λ s. Says fw fn (Rose cw cn) (Rose ecw ecn) was now s in
+    let P : Status → Type 0 = λ s. Says fw fn (CountIncreased cw cn) (CountIncreased ecw ecn) was now s in
     subst P (sym t.0) t.1
 complained_says fw fn cw cn ecw ecn was now c result k (inr (m, inr t)) =
-    let P : Status → Type 0 = λ s. Says fw fn (Rose cw cn) (Rose ecw ecn) was now s in
-    subst P (sym t.0) (inr (inr (t.2, (OutOfMemory, t.1))))
+    let P : Status → Type 0 = λ s. Says fw fn (CountIncreased cw cn) (CountIncreased ecw ecn) was now s in
+    subst P (sym t.0) (inr (inr (t.2, inr (OutOfMemory, t.1))))
 
 -- some count of faults rose
 abbrev pub SomeRose : (ℕ → ℕ) → (ℕ → ℕ) → ℕ → ℕ → ℕ → ℕ → Type 0
-SomeRose fw fn cw cn ecw ecn = Rose (fw 0) (fn 0) ⊎ (Rose (fw 1) (fn 1) ⊎ (Rose cw cn ⊎ Rose ecw ecn))
+SomeRose fw fn cw cn ecw ecn = CountIncreased (fw 0) (fn 0) ⊎ (CountIncreased (fw 1) (fn 1) ⊎ (CountIncreased cw cn ⊎ CountIncreased ecw ecn))
 
 rose_of : (files_was files_now : ℕ → ℕ) (count_was count_now ecw ecn : ℕ) (c : Complaint) → CountsOf files_was files_now count_was count_now (Err c)
     → status_of c ≡ status.Device → SomeRose files_was files_now count_was count_now ecw ecn
@@ -112,7 +108,6 @@ rose_of fw fn cw cn ecw ecn (Refused refusal) k is = absurd (let e : status.Refu
 rose_of fw fn cw cn ecw ecn (TooLong r) k is = absurd (let e : status.Refused ≡ status.Device = is in cc)
 rose_of fw fn cw cn ecw ecn (Trace line cause) k is = absurd (let e : status.Refused ≡ status.Device = is in cc)
 rose_of fw fn cw cn ecw ecn OutOfMemory k is = absurd (let e : status.NoMemory ≡ status.Device = is in cc)
-rose_of fw fn cw cn ecw ecn Usage k is = absurd k
 
 pub complained_device : (files_was files_now : ℕ → ℕ) (count_was count_now err_count_was err_count_now : ℕ) (was now : Option (List ℕ)) (c : Complaint) (result : Status)
     → CountsOf files_was files_now count_was count_now (Err c) → Complains c was now err_count_was err_count_now result
@@ -134,7 +129,6 @@ kept_of_complaint fw fn cw cn (Trace line cause) k other = k
 kept_of_complaint fw fn cw cn OutOfMemory k other = k
 kept_of_complaint fw fn cw cn (ReadFailed r) k other = absurd (other refl)
 kept_of_complaint fw fn cw cn WriteFailed k other = absurd (other refl)
-kept_of_complaint fw fn cw cn Usage k other = absurd k
 
 kept_in_memory : (files_was files_now : ℕ → ℕ) (count_was count_now : ℕ) (c : Complaint) → CountsOf files_was files_now count_was count_now (Err c)
     → IsTrue (takes_memory c) → AllKept files_was files_now count_was count_now
@@ -144,7 +138,6 @@ kept_in_memory fw fn cw cn (TooLong r) k m = k
 kept_in_memory fw fn cw cn OutOfMemory k m = k
 kept_in_memory fw fn cw cn (ReadFailed r) k m = absurd (let e : false ≡ true = m in cc)
 kept_in_memory fw fn cw cn WriteFailed k m = absurd (let e : false ≡ true = m in cc)
-kept_in_memory fw fn cw cn Usage k m = absurd k
 
 pub complained_kept : (files_was files_now : ℕ → ℕ) (count_was count_now err_count_was err_count_now : ℕ) (was now : Option (List ℕ)) (c : Complaint) (result : Status)
     → CountsOf files_was files_now count_was count_now (Err c) → Complains c was now err_count_was err_count_now result
@@ -158,16 +151,16 @@ complained_kept fw fn cw cn ecw ecn was now c result k (inr (m, inr t)) other = 
 
 -- the usage was said, or `err` failed at it
 pub usage_says : (files_was files_now : ℕ → ℕ) (out_failed : Type 0) (err_count_was err_count_now : ℕ) (was now : Option (List ℕ)) (line : List ℕ) (result : Status)
-    → line ≡ said_of Usage → Tells line was now err_count_was err_count_now status.Usage result
-    → Says files_was files_now out_failed (Rose err_count_was err_count_now) was now result
+    → line ≡ usage_line → Tells line was now err_count_was err_count_now status.Usage result
+    → Says files_was files_now out_failed (CountIncreased err_count_was err_count_now) was now result
 usage_says fw fn failed ecw ecn was now line result is (inl t) =
-    let P : Status → Type 0 = λ s. Says fw fn failed (Rose ecw ecn) was now s in
+    let P : Status → Type 0 = λ s. Says fw fn failed (CountIncreased ecw ecn) was now s in
     let Q : List ℕ → Type 0 = λ bytes. Appends was now bytes in
     subst P (sym t.0) (subst Q is t.1)
 usage_says fw fn failed ecw ecn was now line result is (inr t) =
-    let P : Status → Type 0 = λ s. Says fw fn failed (Rose ecw ecn) was now s in
+    let P : Status → Type 0 = λ s. Says fw fn failed (CountIncreased ecw ecn) was now s in
     let Q : List ℕ → Type 0 = λ bytes. AppendsPrefix was now bytes in
-    subst P (sym t.0) (inr (inr (t.2, (Usage, subst Q is t.1))))
+    subst P (sym t.0) (inr (inr (t.2, inl (subst Q is t.1))))
 
 -- Usage is the end of no complaint that a replay answers
 usage_of : (files_was files_now : ℕ → ℕ) (count_was count_now : ℕ) (c : Complaint) → CountsOf files_was files_now count_was count_now (Err c)
@@ -178,7 +171,6 @@ usage_of fw fn cw cn (Trace line cause) k is = let e : status.Refused ≡ status
 usage_of fw fn cw cn (ReadFailed r) k is = let e : status.Device ≡ status.Usage = is in cc
 usage_of fw fn cw cn WriteFailed k is = let e : status.Device ≡ status.Usage = is in cc
 usage_of fw fn cw cn OutOfMemory k is = let e : status.NoMemory ≡ status.Usage = is in cc
-usage_of fw fn cw cn Usage k is = k
 
 pub complained_other : (files_was files_now : ℕ → ℕ) (count_was count_now err_count_was err_count_now : ℕ) (was now : Option (List ℕ)) (c : Complaint) (result : Status)
     → CountsOf files_was files_now count_was count_now (Err c) → Complains c was now err_count_was err_count_now result → result ≢ status.Usage

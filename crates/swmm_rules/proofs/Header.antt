@@ -4,8 +4,8 @@ use Rattle.std.proofs.lemmas.List.{append-nil}
 use Rattle.std.proofs.lemmas.Slice.Eq.{bytes_eq-Decides}
 use Rattle.std.specs.Io.KnownBytes.{Appends}
 use Rattle.byte_edge.specs.Devices.{AppendsPrefix}
-use Rattle.byte_edge.specs.Lines.{Told, Whole, newlines}
-use Rattle.byte_edge.specs.ReaderState.{ReaderState, WhereTold, TellsFirst, ahead, to_come}
+use Rattle.byte_edge.specs.Lines.{LineEvent, Whole, newlines}
+use Rattle.byte_edge.specs.ReaderState.{ReaderState, WhenKnown, ReportsFirst, ahead, to_come}
 use Rattle.small_model.specs.Models.{Contents}
 use Rattle.small_trace.specs.Row.{header_of}
 use Rattle.swmm_rules.specs.Replay.{prefixed, ends, Faulty, printed, rows_printed, header_text}
@@ -15,26 +15,26 @@ use Rattle.swmm_rules.specs.Outcome.{trace_told}
 use Rattle.swmm_rules.specs.Segment.{Prints, PrintsFirst, is_read_failed}
 use Rattle.swmm_rules.specs.declared.complaint.Role.TheVariants as role
 use Rattle.swmm_rules.specs.declared.complaint.Complaint.{Complaint}
-use Rattle.swmm_rules.specs.declared.complaint.Complaint.TheVariants.{Usage, Refused, TooLong, Trace, ReadFailed, WriteFailed, OutOfMemory}
+use Rattle.swmm_rules.specs.declared.complaint.Complaint.TheVariants.{Refused, TooLong, Trace, ReadFailed, WriteFailed, OutOfMemory}
 use Rattle.swmm_rules.specs.declared.complaint.TraceCause.TheVariants.{BadHeader}
 use Rattle.swmm_rules.proofs.Histories.{rows_printed-kept}
-use Rattle.swmm_rules.proofs.Told.{where_then}
-use Rattle.swmm_rules.proofs.Written.{Appends-nothing, Appends-then, Appends-same, AppendsPrefix-after}
+use Rattle.byte_edge.proofs.PublicLaws.{known_bytes-then as where_then}
+use Rattle.byte_edge.proofs.PublicLaws.{written_bytes-nothing as Appends-nothing, written_bytes-then as Appends-then, written_bytes-same as Appends-same, written_bytes-prefix_after as AppendsPrefix-after}
 
 -- after the header, what is printed goes on from the pumps' statuses
-pub header_printed : (m : Contents) (later : List Told)
+pub header_printed : (m : Contents) (later : List LineEvent)
     → printed m (Whole (header_of m.junction) ∷ later) ≡ prefixed (header_text m) (goes_on m (first_kept m) 2 later)
 header_printed m later =
     ap (λ b. cond b (prefixed (header_text m) (rows_printed m [] 2 later)) (ends (Faulty 1 BadHeader)))
     ((bytes_eq-Decides (header_of m.junction) (header_of m.junction)).1 refl)
     ∙ ap (prefixed (header_text m)) (rows_printed-kept m later [] 2)
 
-header_text_of : (m : Contents) (later : List Told)
+header_text_of : (m : Contents) (later : List LineEvent)
     → (printed m (Whole (header_of m.junction) ∷ later)).text ≡ header_text m ++ (goes_on m (first_kept m) 2 later).text
 header_text_of m later = ap (λ print. print.text) (header_printed m later)
 
 -- the header was written, and then what the rows leave
-pub prints_after : (m : Contents) (later : List Told) (lines rows : ℕ) (rest : List ℕ) (was mid now : Option (List ℕ)) (result : Result (Unit {0}) Complaint)
+pub prints_after : (m : Contents) (later : List LineEvent) (lines rows : ℕ) (rest : List ℕ) (was mid now : Option (List ℕ)) (result : Result (Unit {0}) Complaint)
     → Appends was mid (header_text m)
     → (is_read_failed result ≡ true → lines ≡ rows + 1)
     → Prints (goes_on m (first_kept m) 2) later rows rest mid now result
@@ -66,17 +66,16 @@ prints_after m later lines rows rest was mid now (Err OutOfMemory) wrote counted
   count = suc p.count;
   text = Appends-same was now _ _ (sym (header_text_of m (take p.count later))) (Appends-then was mid now (header_text m) _ wrote p.text);
 }
-prints_after m later lines rows rest was mid now (Err Usage) wrote counted p = absurd p
 prints_after m later lines rows rest was mid now (Err (Refused refusal)) wrote counted p = absurd p
 prints_after m later lines rows rest was mid now (Err (TooLong role.Input)) wrote counted p = absurd p
 prints_after m later lines rows rest was mid now (Err (ReadFailed role.Input)) wrote counted p = absurd p
 
 -- nothing was printed
-pub prints_nothing : (m : Contents) (lines : List Told) (was : Option (List ℕ)) → PrintsFirst (printed m) lines was was
+pub prints_nothing : (m : Contents) (lines : List LineEvent) (was : Option (List ℕ)) → PrintsFirst (printed m) lines was was
 prints_nothing m lines was = record { count = 0; text = Appends-nothing was }
 
 -- a prefix of the header is a prefix of the whole
-pub header_prefix : (m : Contents) (later : List Told) (was now : Option (List ℕ)) → AppendsPrefix was now (header_text m)
+pub header_prefix : (m : Contents) (later : List LineEvent) (was now : Option (List ℕ)) → AppendsPrefix was now (header_text m)
     → AppendsPrefix was now (printed m (Whole (header_of m.junction) ∷ later)).text
 header_prefix m later was now p =
     let P : List ℕ → Type 0 = λ bytes. AppendsPrefix was now bytes in
@@ -85,57 +84,57 @@ header_prefix m later was now p =
 
 -- nothing was printed, and nothing read
 pub told_nothing : (m : Contents) (left was : Option (List ℕ))
-    → WhereTold left left (λ before after. PrintsFirst (printed m) (trace_told before) was was)
+    → WhenKnown left left (λ before after. PrintsFirst (printed m) (trace_told before) was was)
 told_nothing m None was = tt
 told_nothing m (Some bytes) was = prints_nothing m (trace_told bytes) was
 
 -- the header was written, and then what the rows leave, where the trace is told
 told_after_first : (m : Contents) (reader0 reader : ReaderState) (left0 mid left was between now : Option (List ℕ)) (result : Result (Unit {0}) Complaint)
-    → WhereTold left0 mid (TellsFirst (Whole (header_of m.junction)) reader0 reader)
+    → WhenKnown left0 mid (ReportsFirst (Whole (header_of m.junction)) reader0 reader)
     → (is_read_failed result ≡ true → reader.ended ≡ false)
     → Appends was between (header_text m)
-    → WhereTold mid left (λ before after. Prints (goes_on m (first_kept m) 2) (to_come reader before) (newlines (ahead reader before)) after between now result)
-    → WhereTold left0 left (λ before after. Prints (printed m) (to_come reader0 before) (newlines (ahead reader0 before)) after was now result)
+    → WhenKnown mid left (λ before after. Prints (goes_on m (first_kept m) 2) (to_come reader before) (newlines (ahead reader before)) after between now result)
+    → WhenKnown left0 left (λ before after. Prints (printed m) (to_come reader0 before) (newlines (ahead reader0 before)) after was now result)
 told_after_first m reader0 reader left0 mid left was between now result header awake wrote rows =
-    where_then left0 mid left (TellsFirst (Whole (header_of m.junction)) reader0 reader)
+    where_then left0 mid left (ReportsFirst (Whole (header_of m.junction)) reader0 reader)
     (λ before after. Prints (goes_on m (first_kept m) 2) (to_come reader before) (newlines (ahead reader before)) after between now result)
     (λ before after. Prints (printed m) (to_come reader0 before) (newlines (ahead reader0 before)) after was now result)
     header rows (λ before middle after p q. one before middle after p q)
   where
-    one : (before middle after : List ℕ) → TellsFirst (Whole (header_of m.junction)) reader0 reader before middle
+    one : (before middle after : List ℕ) → ReportsFirst (Whole (header_of m.junction)) reader0 reader before middle
         → Prints (goes_on m (first_kept m) 2) (to_come reader middle) (newlines (ahead reader middle)) after between now result
         → Prints (printed m) (to_come reader0 before) (newlines (ahead reader0 before)) after was now result
     one before middle after p q =
-        let P : List Told → Type 0 = λ lines. Prints (printed m) lines (newlines (ahead reader0 before)) after was now result in
+        let P : List LineEvent → Type 0 = λ lines. Prints (printed m) lines (newlines (ahead reader0 before)) after was now result in
         let counted = λ (failed : is_read_failed result ≡ true). p.counted ∙ ap (λ b. newlines (ahead reader middle) + cond b 0 1) (awake failed) in
-        subst P (sym p.told)
+        subst P (sym p.events)
         (prints_after m (to_come reader middle) (newlines (ahead reader0 before)) (newlines (ahead reader middle)) after was between now result wrote counted q)
 
 pub told_after : (m : Contents) (kept : Kept) (reader0 reader : ReaderState) (left0 mid left was between now : Option (List ℕ)) (result : Result (Unit {0}) Complaint)
     → kept ≡ first_kept m
-    → WhereTold left0 mid (TellsFirst (Whole (header_of m.junction)) reader0 reader)
+    → WhenKnown left0 mid (ReportsFirst (Whole (header_of m.junction)) reader0 reader)
     → (is_read_failed result ≡ true → reader.ended ≡ false)
     → Appends was between (header_text m)
-    → WhereTold mid left (λ before after. Prints (goes_on m kept 2) (to_come reader before) (newlines (ahead reader before)) after between now result)
-    → WhereTold left0 left (λ before after. Prints (printed m) (to_come reader0 before) (newlines (ahead reader0 before)) after was now result)
+    → WhenKnown mid left (λ before after. Prints (goes_on m kept 2) (to_come reader before) (newlines (ahead reader before)) after between now result)
+    → WhenKnown left0 left (λ before after. Prints (printed m) (to_come reader0 before) (newlines (ahead reader0 before)) after was now result)
 told_after m kept reader0 reader left0 mid left was between now result first header awake wrote rows =
-    let P : Kept → Type 0 = λ k. WhereTold mid left (λ before after. Prints (goes_on m k 2) (to_come reader before) (newlines (ahead reader before)) after between now result) in
+    let P : Kept → Type 0 = λ k. WhenKnown mid left (λ before after. Prints (goes_on m k 2) (to_come reader before) (newlines (ahead reader before)) after between now result) in
     told_after_first m reader0 reader left0 mid left was between now result header awake wrote (subst P first rows)
 
 -- a prefix of the header was written, where the trace is told
 pub told_prefix : (m : Contents) (reader0 reader : ReaderState) (left0 left was now : Option (List ℕ))
-    → WhereTold left0 left (TellsFirst (Whole (header_of m.junction)) reader0 reader)
+    → WhenKnown left0 left (ReportsFirst (Whole (header_of m.junction)) reader0 reader)
     → AppendsPrefix was now (header_text m)
-    → WhereTold left0 left (λ before after. AppendsPrefix was now (printed m (to_come reader0 before)).text)
+    → WhenKnown left0 left (λ before after. AppendsPrefix was now (printed m (to_come reader0 before)).text)
 told_prefix m reader0 reader None left was now header wrote = tt
 told_prefix m reader0 reader (Some before) None was now header wrote = header
 told_prefix m reader0 reader (Some before) (Some after) was now header wrote =
-    let P : List Told → Type 0 = λ lines. AppendsPrefix was now (printed m lines).text in
-    subst P (sym header.told) (header_prefix m (to_come reader after) was now wrote)
+    let P : List LineEvent → Type 0 = λ lines. AppendsPrefix was now (printed m lines).text in
+    subst P (sym header.events) (header_prefix m (to_come reader after) was now wrote)
 
 -- a fact of every output is one of this output, where the trace is told
 pub told_at : (left0 left : Option (List ℕ)) (P : List ℕ → List ℕ → Option (List ℕ) → Type 0) (was : Option (List ℕ))
-    → WhereTold left0 left (λ before after. (out : Option (List ℕ)) → P before after out) → WhereTold left0 left (λ before after. P before after was)
+    → WhenKnown left0 left (λ before after. (out : Option (List ℕ)) → P before after out) → WhenKnown left0 left (λ before after. P before after was)
 told_at None left P was p = tt
 told_at (Some before) None P was p = p
 told_at (Some before) (Some after) P was p = p was

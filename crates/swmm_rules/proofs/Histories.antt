@@ -1,6 +1,6 @@
 -- The parts that a replay keeps stand for the rows before.
 use Rattle.std.proofs.Common.{◌≡◌, ℕ, ◌+◌, List, [], ◌∷◌, Option, Some, None, ap, refl, ◌∙◌, cond, ℤ}
-use Rattle.byte_edge.specs.Lines.{Told, Whole, OverLong, PastBudget}
+use Rattle.byte_edge.specs.Lines.{LineEvent, Whole, OverLong, PastBudget}
 use Rattle.small_trace.specs.Row.{TraceRow, row_of}
 use Rattle.small_model.specs.Models.{Contents}
 use Rattle.swmm_rules.specs.Replay.{Printed, Faulty, ends, prefixed, is_later, row_printed, rows_printed, row_text, settings_after}
@@ -31,7 +31,7 @@ row-kept m older number (Some row) f g same =
     (same (row ∷ older))
 
 -- what is printed after a history of rows goes on from the parts that these rows leave
-pub rows_printed-kept : (m : Contents) (told : List Told) (older : List TraceRow) (number : ℕ)
+pub rows_printed-kept : (m : Contents) (told : List LineEvent) (older : List TraceRow) (number : ℕ)
     → rows_printed m older number told ≡ goes_on m (kept_by m older) number told
 rows_printed-kept m [] older number = refl
 rows_printed-kept m (Whole line ∷ later) older number =

@@ -27,7 +27,8 @@ device_from_empty : (faults_was faults_now : ℕ → ℕ) (out_failed err_failed
     → SaysDevice faults_was faults_now out_failed err_failed (Some []) (Some error) → TellsDevice error
 device_from_empty fw fn f e error (inl p) = inl (p.0, p.2)
 device_from_empty fw fn f e error (inr (inl p)) = inr (inl p.1)
-device_from_empty fw fn f e error (inr (inr p)) = inr (inr (p.1.0, front_from_empty error _ p.1.1))
+device_from_empty fw fn f e error (inr (inr (failed, inl usage))) = inr (inr (inl (front_from_empty error _ usage)))
+device_from_empty fw fn f e error (inr (inr (failed, inr p))) = inr (inr (inr (p.0, front_from_empty error _ p.1)))
 
 pub replay_in_memory : (input trace : List ℕ) (slot1 left0 left1 : Option (List ℕ)) (output error : List ℕ) (out_failed err_failed out_failed' err_failed' : Type 0) (faults_was faults_now : ℕ → ℕ) (status : Status)
     → Replays input trace slot1 left0 left1 (Some []) (Some output) (Some []) (Some error) out_failed err_failed status

@@ -10,4 +10,3 @@ pub mod Progress
 pub mod Ranges
 pub mod Runs
 pub mod Told
-pub mod Written

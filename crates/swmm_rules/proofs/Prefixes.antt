@@ -3,7 +3,7 @@ use Rattle.std.proofs.Common.{◌≡◌, ℕ, zero, suc, ◌+◌, Bool, true, fa
 use Rattle.std.proofs.lemmas.List.{append_assoc}
 use Rattle.std.specs.Option.{option_map_or}
 use Rattle.std.specs.Str.{bytes_eq}
-use Rattle.byte_edge.specs.Lines.{Told, Whole, OverLong, PastBudget}
+use Rattle.byte_edge.specs.Lines.{LineEvent, Whole, OverLong, PastBudget}
 use Rattle.small_trace.specs.Row.{TraceRow, row_of, header_of}
 use Rattle.small_model.specs.Models.{Contents}
 use Rattle.swmm_rules.specs.Replay.{Printed, Faulty, ends, prefixed, is_later, row_printed, rows_printed, row_text, settings_after, header_text, printed}
@@ -34,7 +34,7 @@ row_begins m older number (Some row) whole front begins =
     cond_begins (is_later row.seconds older) (row_text m row.written (settings_after m (row ∷ older))) (whole (row ∷ older)) (front (row ∷ older))
     (ends (Faulty number NotLater)) refl (begins (row ∷ older))
 
-pub rows_begin : (m : Contents) (lines : List Told) (count : ℕ) (older : List TraceRow) (number : ℕ)
+pub rows_begin : (m : Contents) (lines : List LineEvent) (count : ℕ) (older : List TraceRow) (number : ℕ)
     → BeginsWith (rows_printed m older number lines).text (rows_printed m older number (take count lines)).text
 rows_begin m [] zero older number = begins_same []
 rows_begin m [] (suc count) older number = begins_same []
@@ -45,7 +45,7 @@ rows_begin m (Whole line ∷ later) (suc count) older number =
 rows_begin m (OverLong ∷ later) (suc count) older number = begins_same []
 rows_begin m (PastBudget ∷ later) (suc count) older number = begins_same []
 
-pub printed_begins : (m : Contents) (lines : List Told) (count : ℕ) → BeginsWith (printed m lines).text (printed m (take count lines)).text
+pub printed_begins : (m : Contents) (lines : List LineEvent) (count : ℕ) → BeginsWith (printed m lines).text (printed m (take count lines)).text
 printed_begins m [] zero = begins_same []
 printed_begins m [] (suc count) = begins_same []
 printed_begins m (line ∷ later) zero = begins_same (printed m (line ∷ later)).text
@@ -61,7 +61,7 @@ outcome_begins_by : (refused : Option (List ℕ)) (whole front : Printed) → Be
 outcome_begins_by None whole front b = b
 outcome_begins_by (Some line) whole front b = begins_same []
 
-pub outcome_begins : (input : List ℕ) (lines : List Told) (count : ℕ)
+pub outcome_begins : (input : List ℕ) (lines : List LineEvent) (count : ℕ)
     → BeginsWith (outcome_of input lines).output (outcome_of input (take count lines)).output
 outcome_begins input lines count =
     outcome_begins_by (input_complaint input) (printed (input_model input) lines) (printed (input_model input) (take count lines))

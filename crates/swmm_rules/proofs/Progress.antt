@@ -4,20 +4,20 @@ use Rattle.std.proofs.lemmas.List.{append-nil, append_assoc, length-append}
 use Rattle.std.proofs.Math.Seq.{take-append_seam}
 use Rattle.std.specs.Io.KnownBytes.{Appends}
 use Rattle.byte_edge.specs.Devices.{AppendsPrefix}
-use Rattle.byte_edge.specs.Lines.{Told, Whole, newlines}
-use Rattle.byte_edge.specs.ReaderState.{ReaderState, ahead, to_come, TellsFirst}
+use Rattle.byte_edge.specs.Lines.{LineEvent, Whole, newlines}
+use Rattle.byte_edge.specs.ReaderState.{ReaderState, ahead, to_come, ReportsFirst}
 use Rattle.small_model.specs.Models.{Contents}
 use Rattle.swmm_rules.specs.Replay.{Printed, End, prefixed, ends}
 use Rattle.swmm_rules.specs.Progress.{Kept, goes_on}
 use Rattle.swmm_rules.specs.Segment.{PrintsFirst, PrintsTaken}
-use Rattle.swmm_rules.proofs.Written.{Appends-nothing, Appends-then, Appends-same, AppendsPrefix-after}
+use Rattle.byte_edge.proofs.PublicLaws.{written_bytes-nothing as Appends-nothing, written_bytes-then as Appends-then, written_bytes-same as Appends-same, written_bytes-prefix_after as AppendsPrefix-after}
 
 -- between two rows: the lines given so far and their text, and what the kept parts go on with
 pub record Progress (m : Contents) (kept0 kept : Kept) (number : ℕ) (reader0 reader : ReaderState) (before after : List ℕ) (was now : Option (List ℕ)) : Type 0 where
-  pub given : List Told
+  pub given : List LineEvent
   pub text : List ℕ
   pub all : to_come reader0 before ≡ given ++ to_come reader after
-  pub printed : (later : List Told) → goes_on m kept0 2 (given ++ later) ≡ prefixed text (goes_on m kept number later)
+  pub printed : (later : List LineEvent) → goes_on m kept0 2 (given ++ later) ≡ prefixed text (goes_on m kept number later)
   pub written : Appends was now text
   pub counted : reader.ended ≡ false → newlines (ahead reader0 before) ≡ length given + newlines (ahead reader after)
 
@@ -44,15 +44,15 @@ progress_start m kept reader before was = record {
 pub progress_row : (m : Contents) (kept0 kept next : Kept) (number : ℕ) (reader0 reader reader' : ReaderState) (before after after' : List ℕ) (was now now' : Option (List ℕ))
     → (line text : List ℕ)
     → Progress m kept0 kept number reader0 reader before after was now
-    → TellsFirst (Whole line) reader reader' after after'
+    → ReportsFirst (Whole line) reader reader' after after'
     → (reader'.ended ≡ false → reader.ended ≡ false)
-    → ((number : ℕ) → (later : List Told) → goes_on m kept number (Whole line ∷ later) ≡ prefixed text (goes_on m next (number + 1) later))
+    → ((number : ℕ) → (later : List LineEvent) → goes_on m kept number (Whole line ∷ later) ≡ prefixed text (goes_on m next (number + 1) later))
     → Appends now now' text
     → Progress m kept0 next (number + 1) reader0 reader' before after' was now'
 progress_row m kept0 kept next number reader0 reader reader' before after after' was now now' line text p step awake row wrote = record {
   given = p.given ++ Whole line ∷ [];
   text = p.text ++ text;
-  all = p.all ∙ ap (λ lines. p.given ++ lines) step.told ∙ sym (append_assoc p.given (Whole line ∷ []) (to_come reader' after'));
+  all = p.all ∙ ap (λ lines. p.given ++ lines) step.events ∙ sym (append_assoc p.given (Whole line ∷ []) (to_come reader' after'));
   printed = λ later.
       ap (goes_on m kept0 2) (append_assoc p.given (Whole line ∷ []) later) ∙ p.printed (Whole line ∷ later)
       ∙ ap (prefixed p.text) (row number later) ∙ prefixed-prefixed p.text text (goes_on m next (number + 1) later);
@@ -118,10 +118,10 @@ progress_taken m kept0 kept number reader0 reader before after rest was now p go
 
 -- a write failed at the next row's text
 pub progress_unwritten : (m : Contents) (kept0 kept next : Kept) (number : ℕ) (reader0 reader : ReaderState) (before after : List ℕ) (was now now' : Option (List ℕ))
-    → (line text : List ℕ) (later : List Told)
+    → (line text : List ℕ) (later : List LineEvent)
     → Progress m kept0 kept number reader0 reader before after was now
     → to_come reader after ≡ Whole line ∷ later
-    → ((number : ℕ) → (later : List Told) → goes_on m kept number (Whole line ∷ later) ≡ prefixed text (goes_on m next (number + 1) later))
+    → ((number : ℕ) → (later : List LineEvent) → goes_on m kept number (Whole line ∷ later) ≡ prefixed text (goes_on m next (number + 1) later))
     → AppendsPrefix now now' text
     → AppendsPrefix was now' (goes_on m kept0 2 (to_come reader0 before)).text
 progress_unwritten m kept0 kept next number reader0 reader before after was now now' line text later p told row wrote =

@@ -4,26 +4,26 @@ use Rattle.std.proofs.Math.Seq.{take-length}
 use Rattle.std.specs.Option.{option_map_or}
 use Rattle.std.specs.Io.KnownBytes.{Appends, IsAtEnd}
 use Rattle.byte_edge.specs.Devices.{AppendsPrefix}
-use Rattle.byte_edge.specs.Lines.{Told, newlines}
+use Rattle.byte_edge.specs.Lines.{LineEvent, newlines}
 use Rattle.small_model.specs.Models.{Contents}
 use Rattle.swmm_rules.specs.declared.complaint.Role.TheVariants as role
 use Rattle.swmm_rules.specs.declared.complaint.Complaint.{Complaint}
-use Rattle.swmm_rules.specs.declared.complaint.Complaint.TheVariants.{Usage, Refused, TooLong, Trace, ReadFailed, WriteFailed, OutOfMemory}
+use Rattle.swmm_rules.specs.declared.complaint.Complaint.TheVariants.{Refused, TooLong, Trace, ReadFailed, WriteFailed, OutOfMemory}
 use Rattle.swmm_rules.specs.Replay.{End, printed}
 use Rattle.swmm_rules.specs.Outcome.{outcome, outcome_of, printed_outcome, end_complaint, input_complaint, input_model, trace_told, text_of_taken}
 use Rattle.swmm_rules.specs.Segment.{PrintsTrace, IsTraceEnd}
 use Rattle.swmm_rules.specs.Inputs.{ReadsInput, IsInputEnd}
 use Rattle.swmm_rules.specs.Runs.{WritesFirst, Interrupted}
 use Rattle.swmm_rules.specs.Steps.{Comes, EndsWith}
-use Rattle.swmm_rules.proofs.Written.{Appends-nothing, Appends-same, AppendsPrefix-of}
+use Rattle.byte_edge.proofs.PublicLaws.{written_bytes-nothing as Appends-nothing, written_bytes-same as Appends-same, written_bytes-prefix as AppendsPrefix-of}
 use Rattle.swmm_rules.proofs.Prefixes.{outcome_begins}
 
 -- the outcome of an accepted and of a refused input file
-outcome_accepted : (input : List ℕ) (lines : List Told) → input_complaint input ≡ None → outcome_of input lines ≡ printed_outcome (printed (input_model input) lines)
+outcome_accepted : (input : List ℕ) (lines : List LineEvent) → input_complaint input ≡ None → outcome_of input lines ≡ printed_outcome (printed (input_model input) lines)
 outcome_accepted input lines accepted =
     ap (λ o. option_map_or (λ complaint. record { output = []; complaint = Some complaint }) o (printed_outcome (printed (input_model input) lines))) accepted
 
-outcome_refused : (input : List ℕ) (lines : List Told) (line : List ℕ) → input_complaint input ≡ Some line
+outcome_refused : (input : List ℕ) (lines : List LineEvent) (line : List ℕ) → input_complaint input ≡ Some line
     → outcome_of input lines ≡ record { output = []; complaint = Some line }
 outcome_refused input lines line refused =
     ap (λ o. option_map_or (λ complaint. record { output = []; complaint = Some complaint }) o (printed_outcome (printed (input_model input) lines))) refused
@@ -57,11 +57,10 @@ comes_unread input trace slot1 left0 left1 was OutOfMemory can p same = writes_n
 comes_unread input trace slot1 left0 left1 was (TooLong role.Trace) can p same = absurd can
 comes_unread input trace slot1 left0 left1 was (ReadFailed role.Trace) can p same = absurd can
 comes_unread input trace slot1 left0 left1 was (Trace line cause) can p same = absurd can
-comes_unread input trace slot1 left0 left1 was Usage can p same = absurd can
 comes_unread input trace slot1 left0 left1 was WriteFailed can p same = absurd can
 
 -- the outcome of an accepted input file, over the model that was read
-of_model : (input : List ℕ) (lines : List Told) (m : Contents) → input_complaint input ≡ None → m ≡ input_model input
+of_model : (input : List ℕ) (lines : List LineEvent) (m : Contents) → input_complaint input ≡ None → m ≡ input_model input
     → outcome_of input lines ≡ printed_outcome (printed m lines)
 of_model input lines m accepted is =
     outcome_accepted input lines accepted ∙ ap (λ contents. printed_outcome (printed contents lines)) (sym is)
@@ -110,7 +109,6 @@ comes_traced input trace slot1 left0 left1 was now m (Err OutOfMemory) accepted 
   text = Appends-same was now _ _ (sym (ap (λ o. o.output) (of_model input (take p.2.count (trace_told trace)) m accepted is))) p.2.text;
 }
 comes_traced input trace slot1 left0 left1 was now m (Err OutOfMemory) accepted is end can (inr p) = absurd (let e : false ≡ true = p.0 in cc)
-comes_traced input trace slot1 left0 left1 was now m (Err Usage) accepted is end can p = absurd can
 comes_traced input trace slot1 left0 left1 was now m (Err (Refused refusal)) accepted is end can p = absurd can
 
 -- the text of the first lines is a prefix of the whole

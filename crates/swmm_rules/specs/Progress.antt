@@ -2,24 +2,24 @@
 -- `Replay` has the definition that the tool is held to.
 use Rattle.std.specs.Prelude.{ℕ, ◌+◌, Bool, true, if◌then◌else◌, List, [], ◌∷◌, Option, Some, None, ℤ, int_lt}
 use Rattle.exact_fraction.specs.Number.{Rational}
-use Rattle.byte_edge.specs.Lines.{Told, Whole, OverLong, PastBudget}
+use Rattle.byte_edge.specs.Lines.{LineEvent, Whole, OverLong, PastBudget}
 use Rattle.plain_reader.specs.Reading.{reading}
 use Rattle.small_trace.specs.Row.{TraceRow, row_of}
 use Rattle.small_model.specs.Models.{Contents}
 use Rattle.swmm_rules.specs.declared.complaint.TraceCause.TheVariants.{NotLater, BadNumber}
 use Rattle.swmm_rules.specs.Replay.{Printed, Finished, Faulty, Overrun, ends, prefixed, row_text}
 
--- what a replay keeps: the settings, and the moment of the last row (own)
+-- what a replay keeps: the settings, and the moment of the last row
 pub record Kept : Type 0 where
   pub settings : List Rational
   pub last : Option ℤ
 
--- the moment is later than the last one (own)
+-- the moment is later than the last one
 abbrev pub is_after : ℤ → Option ℤ → Bool
 is_after seconds None = true
 is_after seconds (Some last) = int_lt last seconds
 
--- what a row leaves (own)
+-- what a row leaves
 abbrev pub kept_after : Contents → Kept → TraceRow → Kept
 kept_after m kept row = record { settings = reading m.rules row.depth kept.settings; last = Some row.seconds }
 
@@ -30,8 +30,8 @@ row_goes_on m kept number (Some row) later =
     then prefixed (row_text m row.written (reading m.rules row.depth kept.settings)) (later (kept_after m kept row))
     else ends (Faulty number NotLater)
 
--- what is printed for the lines from this number on, from the kept parts (own)
-abbrev pub goes_on : Contents → Kept → ℕ → List Told → Printed
+-- what is printed for the lines from this number on, from the kept parts
+abbrev pub goes_on : Contents → Kept → ℕ → List LineEvent → Printed
 goes_on m kept number [] = ends Finished
 goes_on m kept number (Whole line ∷ later) = row_goes_on m kept number (row_of line) (λ next. goes_on m next (number + 1) later)
 goes_on m kept number (OverLong ∷ later) = ends (Faulty number BadNumber)

@@ -1,9 +1,9 @@
--- The numbers of the statuses (own).
+-- The numbers of the statuses.
 use Rattle.std.specs.Prelude.{ℕ}
 use Rattle.swmm_rules.specs.declared.status.Status.{Status}
 use Rattle.swmm_rules.specs.declared.status.Status.TheVariants.{Done, Refused, Usage, Device, NoMemory, Refuted, Undecided}
 
--- what the program ends with (own)
+-- what the program ends with
 abbrev pub status_number : Status → ℕ
 status_number Done = 0
 status_number Refused = 1

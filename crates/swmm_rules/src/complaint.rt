@@ -10,7 +10,7 @@ pub enum Role {
     Trace,
 }
 
-/// Why a line of a trace is refused (own).
+/// Why a line of a trace is refused.
 #[derive(Clone, Copy, Debug, PartialEq, Eq)]
 pub enum TraceCause {
     /// 2: the first line is not `moment,NODE N DEPTH` with the junction's name.
@@ -21,11 +21,9 @@ pub enum TraceCause {
     BadNumber,
 }
 
-/// What is said in one line (own).
+/// What is said in one line.
 #[derive(Debug, Drop)]
 pub enum Complaint {
-    /// The words are no command.
-    Usage,
     /// The input file is refused.
     Refused(Refusal),
     /// The file has more bytes than its limit.

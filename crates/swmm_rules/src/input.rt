@@ -1,6 +1,6 @@
 //! The input file, read to its end and judged.
 ghost use Rattle.std.specs.Prelude.{◌≡◌, ◌<◌, ℕ, List, [], All, Some, IfOk, length, vec_len};
-ghost use Rattle.byte_edge.specs.Devices.{SameElsewhere, CountsFollow};
+ghost use Rattle.byte_edge.specs.Devices.{IsCallOn};
 ghost use Rattle.small_model.specs.Models.{contents_of};
 ghost use Rattle.swmm_rules.specs.Inputs.{IsInputEnd, ReadsInput, is_read_failed};
 
@@ -26,10 +26,9 @@ pub fn read_input<F: Files>(
     ensures rules { IfOk result (λ model. All (λ rule. rule.pump < length model.pumps.items) model.rules.items) }
     ensures ends { IsInputEnd result }
 
-    ensures names { (name : List ℕ) → F.held files.new name ≡ F.held files.old name }
-    ensures other_slots { SameElsewhere 0 (F.left files.old) (F.left files.new) }
-    ensures counts { CountsFollow (is_read_failed result) 0 (F.faults files.old) (F.faults files.new) }
-    ensures other_counts { SameElsewhere 0 (F.faults files.old) (F.faults files.new) }
+    ensures call { IsCallOn 0 (is_read_failed result)
+        (F.is_open files.old) (F.is_open files.new) (F.held files.old) (F.held files.new)
+        (F.left files.old) (F.left files.new) (F.faults files.old) (F.faults files.new) }
 {
     if files.open_file(INPUT_SLOT, name).is_err() {
         return Err(Complaint::ReadFailed(Role::Input));

@@ -1,7 +1,7 @@
 //! Laws of what a replay prints, in the subject's own words. Each is proved of all input files and traces, and runs nothing.
 ghost use Rattle.std.specs.Prelude.{◌≡◌, ◌++◌, ℕ, List, take, All, ◌⊎◌};
 ghost use Rattle.exact_fraction.specs.Number.{Rational, zero, one};
-ghost use Rattle.byte_edge.specs.Lines.{Told};
+ghost use Rattle.byte_edge.specs.Lines.{LineEvent};
 ghost use Rattle.small_model.specs.Models.{Contents};
 ghost use Rattle.small_trace.specs.Row.{TraceRow};
 ghost use Rattle.swmm_rules.specs.Replay.{settings_after};
@@ -10,7 +10,7 @@ ghost use Rattle.swmm_rules.specs.Outcome.{outcome_of};
 /// What is written for the first lines of a trace is the front of what is written for all of them, so a replay can be
 /// cut off at any line.
 pub fn first_lines()
-    ensures front { (input : List ℕ) → (lines : List Told) → (count : ℕ) → (rest : List ℕ)
+    ensures front { (input : List ℕ) → (lines : List LineEvent) → (count : ℕ) → (rest : List ℕ)
         × ((outcome_of input lines).output ≡ (outcome_of input (take count lines)).output ++ rest) }
 {}
 

@@ -1,7 +1,7 @@
 //! The rows of a trace, one after another.
 ghost use Rattle.std.specs.Prelude.{◌≡◌, ◌<◌, ℕ, List, [], ◌∷◌, ◌++◌, All, length, IfOk, OnOk, MatchResult, None, Err, true, false, get_or, ◌≢◌};
 ghost use Rattle.exact_fraction.specs.Number.{Rational};
-ghost use Rattle.byte_edge.specs.Lines.{Told, Whole};
+ghost use Rattle.byte_edge.specs.Lines.{LineEvent, Whole};
 ghost use Rattle.small_model.specs.Models.{contents_of, Contents};
 ghost use Rattle.swmm_rules.specs.Replay.{header_text, pump_name, controlled, is_controlled, row_of_fields, setting_digit};
 ghost use Rattle.swmm_rules.specs.Rows.{RowAnswers};

@@ -1,7 +1,7 @@
 //! How a run of the tool ends.
 ghost use Rattle.std.specs.Prelude.{◌≡◌};
 
-/// How a run of the tool ends (own).
+/// How a run of the tool ends.
 #[derive(Clone, Copy, Debug, PartialEq, Eq)]
 pub enum Status {
     /// The input was read to its end and the whole text is written.

@@ -2,14 +2,14 @@
 ghost use Rattle.std.specs.Prelude.{◌≡◌, ◌⊎◌, ◌<◌, ◌^◌, ℕ, List, [], All, length, OnOk, OnErr, Option, Some, false, true};
 ghost use Rattle.std.specs.Io.KnownBytes.{Appends};
 ghost use Rattle.byte_edge.specs.Lines.{newlines};
-ghost use Rattle.byte_edge.specs.Devices.{SameElsewhere, CountsFollow};
-ghost use Rattle.byte_edge.specs.ReaderState.{ahead, to_come, WhereTold, KnowsEnd};
+ghost use Rattle.byte_edge.specs.Devices.{IsCallOn};
+ghost use Rattle.byte_edge.specs.ReaderState.{ahead, to_come, WhenKnown, KnowsEnd};
 ghost use Rattle.small_model.specs.Models.{contents_of};
 ghost use Rattle.swmm_rules.specs.Kept.{first_kept, kept_of};
 ghost use Rattle.swmm_rules.specs.Progress.{goes_on};
 ghost use Rattle.swmm_rules.specs.Replay.{controlled, header_text, printed};
 ghost use Rattle.swmm_rules.specs.Outcome.{trace_told};
-ghost use Rattle.swmm_rules.specs.Segment.{Prints, PrintsTrace, HeaderRead, is_read_failed, IsTraceEnd, CountFollows, is_write_failed};
+ghost use Rattle.swmm_rules.specs.Segment.{Prints, PrintsTrace, HeaderRead, is_read_failed, IsTraceEnd, FaultCount, is_write_failed};
 
 use crate::complaint::{Complaint, Role, TraceCause};
 use crate::replay::{Replay, RowFault, controlled_pumps, header_text};
@@ -40,10 +40,10 @@ pub fn replay_trace<F: Files, O: Sink>(
     ensures ends { IsTraceEnd result }
 
     ensures opened { F.is_open files.new 1 ⊎ Appends (O.written out.old) (O.written out.new) [] }
-    ensures other_slots { SameElsewhere 1 (F.left files.old) (F.left files.new) }
-    ensures counts { CountsFollow (is_read_failed result) 1 (F.faults files.old) (F.faults files.new) }
-    ensures other_counts { SameElsewhere 1 (F.faults files.old) (F.faults files.new) }
-    ensures count { CountFollows (is_write_failed result) (O.faults out.old) (O.faults out.new) }
+    ensures call { IsCallOn 1 (is_read_failed result)
+        (F.is_open files.old) (F.is_open files.new) (F.held files.old) (F.held files.new)
+        (F.left files.old) (F.left files.new) (F.faults files.old) (F.faults files.new) }
+    ensures count { FaultCount (is_write_failed result) (O.faults out.old) (O.faults out.new) }
 {
     if files.open_file(TRACE_SLOT, name).is_err() {
         return Err(Complaint::ReadFailed(Role::Trace));
@@ -61,15 +61,14 @@ fn replay_opened<F: Files, O: Sink>(
     requires rules { All (λ rule. rule.pump < length model.now.pumps.items) model.now.rules.items }
     requires opened { F.is_open files.old 1 }
 
-    ensures prints { WhereTold (F.left files.old 1) (F.left files.new 1) (λ before after.
+    ensures prints { WhenKnown (F.left files.old 1) (F.left files.new 1) (λ before after.
         Prints (printed (contents_of model.now)) (trace_told before) (newlines before) after (O.written out.old) (O.written out.new) result) }
     ensures ends { IsTraceEnd result }
 
-    ensures stays_open { F.is_open files.new 1 }
-    ensures other_slots { SameElsewhere 1 (F.left files.old) (F.left files.new) }
-    ensures counts { CountsFollow (is_read_failed result) 1 (F.faults files.old) (F.faults files.new) }
-    ensures other_counts { SameElsewhere 1 (F.faults files.old) (F.faults files.new) }
-    ensures count { CountFollows (is_write_failed result) (O.faults out.old) (O.faults out.new) }
+    ensures call { IsCallOn 1 (is_read_failed result)
+        (F.is_open files.old) (F.is_open files.new) (F.held files.old) (F.held files.new)
+        (F.left files.old) (F.left files.new) (F.faults files.old) (F.faults files.new) }
+    ensures count { FaultCount (is_write_failed result) (O.faults out.old) (O.faults out.new) }
 {
     let Ok(mut reader) = LineReader::new(alloc, TRACE_SLOT, LINE_LIMIT, BUDGET) else {
         return Err(Complaint::OutOfMemory);
@@ -115,16 +114,15 @@ fn replay_lines<F: Files, O: Sink>(
     requires at_end { KnowsEnd reader.old (F.left files.old 1) }
     requires room { reader.old.room < 2 ^ 63 }
 
-    ensures prints { WhereTold (F.left files.old 1) (F.left files.new 1) (λ before after.
+    ensures prints { WhenKnown (F.left files.old 1) (F.left files.new 1) (λ before after.
         Prints (printed (contents_of model.now)) (to_come reader.old before) (newlines (ahead reader.old before)) after
         (O.written out.old) (O.written out.new) result) }
     ensures ends { IsTraceEnd result }
 
-    ensures stays_open { F.is_open files.new 1 }
-    ensures other_slots { SameElsewhere 1 (F.left files.old) (F.left files.new) }
-    ensures counts { CountsFollow (is_read_failed result) 1 (F.faults files.old) (F.faults files.new) }
-    ensures other_counts { SameElsewhere 1 (F.faults files.old) (F.faults files.new) }
-    ensures count { CountFollows (is_write_failed result) (O.faults out.old) (O.faults out.new) }
+    ensures call { IsCallOn 1 (is_read_failed result)
+        (F.is_open files.old) (F.is_open files.new) (F.held files.old) (F.held files.new)
+        (F.left files.old) (F.left files.new) (F.faults files.old) (F.faults files.new) }
+    ensures count { FaultCount (is_write_failed result) (O.faults out.old) (O.faults out.new) }
 {
     read_header(model, reader, files)?;
     if write_all(out, text).is_err() {
@@ -145,15 +143,14 @@ fn read_header<F: Files>(
     requires at_end { KnowsEnd reader.old (F.left files.old 1) }
 
     ensures ok { OnOk result (HeaderRead (contents_of model.now) reader.old reader.new (F.left files.old 1) (F.left files.new 1)) }
-    ensures err { OnErr result (WhereTold (F.left files.old 1) (F.left files.new 1) (λ before after. (was : Option (List ℕ)) →
+    ensures err { OnErr result (WhenKnown (F.left files.old 1) (F.left files.new 1) (λ before after. (was : Option (List ℕ)) →
         Prints (printed (contents_of model.now)) (to_come reader.old before) (newlines (ahead reader.old before)) after was was result)) }
     ensures ends { IsTraceEnd result }
     ensures wrote_nothing { is_write_failed result ≡ false }
 
-    ensures stays_open { F.is_open files.new 1 }
-    ensures other_slots { SameElsewhere 1 (F.left files.old) (F.left files.new) }
-    ensures counts { CountsFollow (is_read_failed result) 1 (F.faults files.old) (F.faults files.new) }
-    ensures other_counts { SameElsewhere 1 (F.faults files.old) (F.faults files.new) }
+    ensures call { IsCallOn 1 (is_read_failed result)
+        (F.is_open files.old) (F.is_open files.new) (F.held files.old) (F.held files.new)
+        (F.left files.old) (F.left files.new) (F.faults files.old) (F.faults files.new) }
 {
     match reader.next_line(files) {
         Ok(Some(line)) => {
@@ -193,18 +190,16 @@ fn replay_rows<F: Files, O: Sink>(
     requires at_end { KnowsEnd reader.old (F.left files.old 1) }
     requires room { reader.old.room < 2 ^ 63 }
 
-    ensures prints { WhereTold (F.left files.old 1) (F.left files.new 1) (λ before after.
+    ensures prints { WhenKnown (F.left files.old 1) (F.left files.new 1) (λ before after.
         Prints (goes_on (contents_of model.now) (kept_of replay.old) 2) (to_come reader.old before)
         (newlines (ahead reader.old before)) after (O.written out.old) (O.written out.new) result) }
     ensures ends { IsTraceEnd result }
     ensures awake { is_read_failed result ≡ true → reader.old.ended ≡ false }
 
-    ensures stays_open { F.is_open files.new 1 }
-    ensures names { (name : List ℕ) → F.held files.new name ≡ F.held files.old name }
-    ensures other_slots { SameElsewhere 1 (F.left files.old) (F.left files.new) }
-    ensures counts { CountsFollow (is_read_failed result) 1 (F.faults files.old) (F.faults files.new) }
-    ensures other_counts { SameElsewhere 1 (F.faults files.old) (F.faults files.new) }
-    ensures count { CountFollows (is_write_failed result) (O.faults out.old) (O.faults out.new) }
+    ensures call { IsCallOn 1 (is_read_failed result)
+        (F.is_open files.old) (F.is_open files.new) (F.held files.old) (F.held files.new)
+        (F.left files.old) (F.left files.new) (F.faults files.old) (F.faults files.new) }
+    ensures count { FaultCount (is_write_failed result) (O.faults out.old) (O.faults out.new) }
 {
     let mut number: u64 = 2;
     'rows: loop {

@@ -1,7 +1,9 @@
-use Rattle.std.proofs.Common.{◌≡◌, ◌++◌, ◌⊎◌, ℕ, List, [], rules, arith, length, take, drop, inl, inr, refl, ◌∙◌, Bool, true, false, length-append}
+use Rattle.std.proofs.Common.{◌≡◌, ◌++◌, ◌⊎◌, ℕ, List, [], rules, arith, length, take, drop, inl, inr, refl, sym, ap, IsTrue, ◌∙◌, Bool, true, false, length-append}
 use Rattle.std.proofs.lemmas.List.{take_all, drop_all, length-take-le}
-use Rattle.byte_edge.specs.Lines.{newlines}
-use Rattle.byte_edge.specs.Part.{IsNextPart, IsWholeLine}
+use Rattle.byte_edge.specs.Lines.{newlines, has_line_feed, IsWholeLine}
+use Rattle.byte_edge.specs.internal.LineParts.{IsNextPart}
+use Rattle.std.proofs.lemmas.Bool.{false≢true}
+use Rattle.byte_edge.proofs.Lines.{none_is_feed}
 use Rattle.byte_edge.proofs.Gathering.{IsTaken-part, Consumes-part, Consumes-filled, Consumes-unread, IsWholeLine-after, newlines-joined}
 use Rattle.byte_edge.proofs.gather.gather.Goals as goal
 
@@ -17,6 +19,13 @@ no_line : (len : ℕ) (whole : Bool) (bytes raw : List ℕ) → whole ≡ false 
 no_line len whole bytes raw is none part =
     let all = part.all is in
     newlines-joined raw (take len bytes) none (rw (all.0, take_all (length bytes) bytes (omega arith)) all.1)
+
+-- where an LF is among the bytes, their next part is a whole line
+part_is_whole : {A : Type 0} (len : ℕ) (whole : Bool) (bytes start : List ℕ) → whole ≡ false → IsNextPart len whole bytes
+    → bytes ≡ start → IsTrue (has_line_feed start) → A
+part_is_whole len whole bytes start is part same has =
+    let none : has_line_feed bytes ≡ false = none_is_feed bytes (part.all is).1 in
+    absurd (false≢true (sym none ∙ ap has_line_feed same ∙ has))
 
 none_held : (len : ℕ) (whole : Bool) (bytes rest : List ℕ) → whole ≡ false → IsNextPart len whole bytes → rest ≡ drop len bytes → rest ≡ []
 none_held len whole bytes rest is part rest_is = rest_is ∙ drop_all len bytes (omega (arith, (part.all is).0))
@@ -60,10 +69,8 @@ parts-preserved g c =
         };
       };
       most = search rules;
-      stays_open = search rules;
-      names = search rules;
-      other_slots = λ k other. search rules;
-      counts = λ k. search rules;
+      unread = λ has. part_is_whole _ _ _ _ c.if-part.false part (c.parts.invariant.unread has).0 has;
+      call = search rules;
     }
 
 pub returns-in-Ok-false-clause-gathered : goal.returns-in-Ok-false-clause-gathered
@@ -95,3 +102,19 @@ returns-in-Err-clause-gathered g c =
       consumed = Consumes-unread _ _ _ _ _ _ (none_held _ _ _ _ c.if-part.false part c.consume.ensures) c.in-Err.ensures.nothing taken.consumed c.in-Err.ensures.unread;
       empty = c.in-Err.ensures.nothing;
     }
+
+pub returns-in-Ok-false-clause-unread : goal.returns-in-Ok-false-clause-unread
+returns-in-Ok-false-clause-unread g c = λ has.
+    let part : IsNextPart c.next_part-part.result.len c.next_part-part.result.whole c.parts.block = rw c.as_slice.ensures at c.next_part-part.ensures in
+    part_is_whole _ _ _ _ c.if-part.false part (c.parts.invariant.unread has).0 has
+
+pub returns-in-Err-clause-unread : goal.returns-in-Err-clause-unread
+returns-in-Err-clause-unread g c = λ has.
+    let part : IsNextPart c.next_part-part.result.len c.next_part-part.result.whole c.parts.block = rw c.as_slice.ensures at c.next_part-part.ensures in
+    part_is_whole _ _ _ _ c.if-part.false part (c.parts.invariant.unread has).0 has
+
+pub returns-then-part-room-clause-unread : goal.returns-then-part-room-clause-unread
+returns-then-part-room-clause-unread g c = λ has. (c.parts.invariant.unread has).1
+
+pub returns-then-part-clause-unread : goal.returns-then-part-clause-unread
+returns-then-part-clause-unread g c = λ has. (c.parts.invariant.unread has).1

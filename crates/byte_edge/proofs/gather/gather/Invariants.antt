@@ -1,6 +1,7 @@
-use Rattle.std.proofs.Common.{◌≡◌, ℕ, ◌+◌, ◌-◌, ◌*◌, List, length}
+use Rattle.std.proofs.Common.{◌≡◌, ◌+◌, ◌-◌, ◌*◌, false, IsTrue, length}
 use Rattle.std.specs.Io.KnownBytes.{prepend_known}
-use Rattle.byte_edge.specs.Devices.{SameElsewhere}
+use Rattle.byte_edge.specs.Devices.{IsCallOn, SlotsUnchanged}
+use Rattle.byte_edge.specs.Lines.{has_line_feed}
 use Rattle.byte_edge.proofs.Gathering.{IsBegun}
 use Rattle.byte_edge.proofs.gather.gather.Given as goal
 
@@ -9,10 +10,11 @@ abbrev pub invariant-parts : goal.invariant-parts
 invariant-parts g l = record {
   begun : IsBegun l.line l.initial.room l.room (prepend_known l.initial.block (g.F.Files.left l.initial.files l.slot)) (prepend_known l.block (g.F.Files.left l.files l.slot));
   most : l.line.most ≡ l.initial.line.most;
-  stays_open : (k : ℕ) → g.F.Files.is_open l.initial.files k → g.F.Files.is_open l.files k;
-  names : (name : List ℕ) → g.F.Files.held l.files name ≡ g.F.Files.held l.initial.files name;
-  other_slots : SameElsewhere l.slot (g.F.Files.left l.initial.files) (g.F.Files.left l.files);
-  counts : (k : ℕ) → g.F.Files.faults l.files k ≡ g.F.Files.faults l.initial.files k;
+  unread : IsTrue (has_line_feed l.initial.block) → (l.block ≡ l.initial.block)
+      × SlotsUnchanged (g.F.Files.left l.initial.files) (g.F.Files.left l.files) (g.F.Files.faults l.initial.files) (g.F.Files.faults l.files);
+  call : IsCallOn l.slot false (g.F.Files.is_open l.initial.files) (g.F.Files.is_open l.files)
+      (g.F.Files.held l.initial.files) (g.F.Files.held l.files) (g.F.Files.left l.initial.files) (g.F.Files.left l.files)
+      (g.F.Files.faults l.initial.files) (g.F.Files.faults l.files);
 }
 
 -- a read that gives bytes is followed by a part of a line, which is paid for

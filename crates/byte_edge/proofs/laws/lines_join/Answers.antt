@@ -1,8 +1,8 @@
-use Rattle.byte_edge.proofs.AllLines.{concat-raw_lines, AreLines-raw_lines}
+use Rattle.byte_edge.proofs.PublicLaws.{lines_join-joined, lines_join-cut}
 use Rattle.byte_edge.proofs.laws.lines_join.Goals as goal
 
 pub returns : goal.returns
 returns c = record {
-  joined = concat-raw_lines c.args.bytes.now;
-  cut = AreLines-raw_lines c.args.bytes.now;
+  joined = lines_join-joined c.args.bytes.now;
+  cut = lines_join-cut c.args.bytes.now;
 }

@@ -1,5 +1,6 @@
 -- The laws of equality.
-use Rattle.exact_fraction.proofs.Cited.{equality-fraction, equality-moment, equality-relation, equality-fault}
+use Rattle.exact_fraction.proofs.PublicLaws.{equality-fraction, equality-moment, equality-relation}
+use Rattle.exact_fraction.proofs.PublicLaws.{equality-fault}
 use Rattle.exact_fraction.proofs.laws.equality.Goals as goal
 
 pub returns-clause-fraction : goal.returns-clause-fraction

@@ -1,7 +1,8 @@
 -- The definitions compute the examples.
 use Rattle.std.proofs.Common.{refl}
 use Rattle.exact_fraction.specs.Number.{den, last_remainder, gcd, cancelled, ratio, whole, fits}
-use Rattle.exact_fraction.specs.Operations.{sum_of, difference_of, product_of, quotient_of, quotient_parts, nearest_whole, round9_of}
+use Rattle.exact_fraction.specs.Operations.{sum_of, difference_of, product_of, quotient_of}
+use Rattle.exact_fraction.specs.Operations.{quotient_parts, nearest_whole, round9_of}
 use Rattle.exact_fraction.specs.Checked.{fitting, made, checked, is_zero, checked_quotient}
 use Rattle.exact_fraction.specs.Moments.{moment_at}
 use Rattle.exact_fraction.proofs.laws.examples.Goals as goal

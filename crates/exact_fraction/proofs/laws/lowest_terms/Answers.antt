@@ -1,5 +1,12 @@
 -- The laws of ratios.
-use Rattle.exact_fraction.proofs.Cited.{lowest_terms-positive, lowest_terms-greatest, lowest_terms-lowest, lowest_terms-value, lowest_terms-no_greater, lowest_terms-divides, lowest_terms-fits, lowest_terms-overflows, lowest_terms-of_same, lowest_terms-unique, lowest_terms-itself, lowest_terms-of_whole, lowest_terms-of_sum, lowest_terms-of_product, lowest_terms-of_sign, lowest_terms-of_rounding}
+use Rattle.exact_fraction.proofs.PublicLaws.{lowest_terms-positive, lowest_terms-greatest}
+use Rattle.exact_fraction.proofs.PublicLaws.{lowest_terms-lowest, lowest_terms-value}
+use Rattle.exact_fraction.proofs.PublicLaws.{lowest_terms-no_greater, lowest_terms-divides}
+use Rattle.exact_fraction.proofs.PublicLaws.{lowest_terms-fits, lowest_terms-overflows}
+use Rattle.exact_fraction.proofs.PublicLaws.{lowest_terms-of_same, lowest_terms-unique}
+use Rattle.exact_fraction.proofs.PublicLaws.{lowest_terms-itself, lowest_terms-of_whole}
+use Rattle.exact_fraction.proofs.PublicLaws.{lowest_terms-of_sum, lowest_terms-of_product}
+use Rattle.exact_fraction.proofs.PublicLaws.{lowest_terms-of_sign, lowest_terms-of_rounding}
 use Rattle.exact_fraction.proofs.laws.lowest_terms.Goals as goal
 
 pub returns-clause-positive : goal.returns-clause-positive

@@ -1,5 +1,11 @@
 -- The laws of the order.
-use Rattle.exact_fraction.proofs.Cited.{order-reflexive, order-total, order-apart, order-antisymmetric, order-same_is_at_most, order-below_is_at_most, order-transitive, order-below_transitive, order-below_at_most, order-at_most_below, order-lesser, order-greater, order-dense}
+use Rattle.exact_fraction.proofs.PublicLaws.{order-reflexive, order-total, order-apart}
+use Rattle.exact_fraction.proofs.PublicLaws.{order-antisymmetric, order-same_is_at_most}
+use Rattle.exact_fraction.proofs.PublicLaws.{order-same_symmetric, order-same_transitive}
+use Rattle.exact_fraction.proofs.PublicLaws.{order-below_is_at_most, order-transitive}
+use Rattle.exact_fraction.proofs.PublicLaws.{order-below_transitive, order-below_at_most}
+use Rattle.exact_fraction.proofs.PublicLaws.{order-at_most_below, order-lesser, order-greater}
+use Rattle.exact_fraction.proofs.PublicLaws.{order-dense}
 use Rattle.exact_fraction.proofs.laws.order.Goals as goal
 
 pub returns-clause-reflexive : goal.returns-clause-reflexive
@@ -16,6 +22,12 @@ returns-clause-antisymmetric c = order-antisymmetric
 
 pub returns-clause-same_is_at_most : goal.returns-clause-same_is_at_most
 returns-clause-same_is_at_most c = order-same_is_at_most
+
+pub returns-clause-same_symmetric : goal.returns-clause-same_symmetric
+returns-clause-same_symmetric c = order-same_symmetric
+
+pub returns-clause-same_transitive : goal.returns-clause-same_transitive
+returns-clause-same_transitive c = order-same_transitive
 
 pub returns-clause-below_is_at_most : goal.returns-clause-below_is_at_most
 returns-clause-below_is_at_most c = order-below_is_at_most

@@ -1,5 +1,12 @@
 -- The laws of products and quotients.
-use Rattle.exact_fraction.proofs.Cited.{products-commutes, products-with_zero, products-with_one, products-of_same, products-at_most, products-below, products-turned_at_most, products-turned_below, products-quotient, products-quotient_at_most, products-quotient_turned, products-quotient_below, products-quotient_turned_below, products-by_greater, products-by_greater_turned, products-quotient_signs}
+use Rattle.exact_fraction.proofs.PublicLaws.{products-commutes, products-with_zero}
+use Rattle.exact_fraction.proofs.PublicLaws.{products-with_one, products-of_same, products-at_most}
+use Rattle.exact_fraction.proofs.PublicLaws.{products-below, products-turned_at_most}
+use Rattle.exact_fraction.proofs.PublicLaws.{products-turned_below, products-quotient}
+use Rattle.exact_fraction.proofs.PublicLaws.{products-quotient_at_most, products-quotient_turned}
+use Rattle.exact_fraction.proofs.PublicLaws.{products-quotient_below}
+use Rattle.exact_fraction.proofs.PublicLaws.{products-quotient_turned_below, products-by_greater}
+use Rattle.exact_fraction.proofs.PublicLaws.{products-by_greater_turned, products-quotient_signs}
 use Rattle.exact_fraction.proofs.laws.products.Goals as goal
 
 pub returns-clause-commutes : goal.returns-clause-commutes

@@ -1,5 +1,6 @@
 -- The laws of rounding.
-use Rattle.exact_fraction.proofs.Cited.{rounding-nearest, rounding-multiple, rounding-of_ratio, rounding-divides, rounding-at_most}
+use Rattle.exact_fraction.proofs.PublicLaws.{rounding-nearest, rounding-multiple, rounding-of_ratio}
+use Rattle.exact_fraction.proofs.PublicLaws.{rounding-divides, rounding-at_most}
 use Rattle.exact_fraction.proofs.laws.rounding.Goals as goal
 
 pub returns-clause-nearest : goal.returns-clause-nearest

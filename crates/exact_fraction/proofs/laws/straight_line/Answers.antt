@@ -1,5 +1,8 @@
 -- The laws of the straight line.
-use Rattle.exact_fraction.proofs.Cited.{straight_line-at_first, straight_line-at_last, straight_line-rising, straight_line-falling, straight_line-rising_below, straight_line-falling_below, straight_line-between}
+use Rattle.exact_fraction.proofs.PublicLaws.{straight_line-at_first, straight_line-at_last}
+use Rattle.exact_fraction.proofs.PublicLaws.{straight_line-rising, straight_line-falling}
+use Rattle.exact_fraction.proofs.PublicLaws.{straight_line-rising_below}
+use Rattle.exact_fraction.proofs.PublicLaws.{straight_line-falling_below, straight_line-between}
 use Rattle.exact_fraction.proofs.laws.straight_line.Goals as goal
 
 pub returns-clause-at_first : goal.returns-clause-at_first

@@ -1,5 +1,11 @@
 -- The laws of sums, differences and signs.
-use Rattle.exact_fraction.proofs.Cited.{sums-commutes, sums-associates, sums-with_zero, sums-with_difference, sums-as_sum, sums-of_same, sums-difference_of_same, sums-at_most, sums-below, sums-difference_at_most, sums-difference_below, sums-taken_at_most, sums-taken_below, sums-difference_sign, sums-sign_at_most, sums-sign_below, sums-sign_twice}
+use Rattle.exact_fraction.proofs.PublicLaws.{sums-commutes, sums-associates, sums-with_zero}
+use Rattle.exact_fraction.proofs.PublicLaws.{sums-with_difference, sums-as_sum, sums-of_same}
+use Rattle.exact_fraction.proofs.PublicLaws.{sums-difference_of_same, sums-at_most, sums-below}
+use Rattle.exact_fraction.proofs.PublicLaws.{sums-difference_at_most, sums-difference_below}
+use Rattle.exact_fraction.proofs.PublicLaws.{sums-taken_at_most, sums-taken_below}
+use Rattle.exact_fraction.proofs.PublicLaws.{sums-difference_sign, sums-sign_at_most}
+use Rattle.exact_fraction.proofs.PublicLaws.{sums-sign_below, sums-sign_twice}
 use Rattle.exact_fraction.proofs.laws.sums.Goals as goal
 
 pub returns-clause-commutes : goal.returns-clause-commutes

@@ -1,5 +1,6 @@
 -- What the tests and the checked answers tell.
-use Rattle.exact_fraction.proofs.Cited.{tells-less, tells-same, tells-fitting, tells-checked, tells-quotient}
+use Rattle.exact_fraction.proofs.PublicLaws.{tells-less, tells-same, tells-fitting, tells-checked}
+use Rattle.exact_fraction.proofs.PublicLaws.{tells-quotient}
 use Rattle.exact_fraction.proofs.laws.tells.Goals as goal
 
 pub returns-clause-less : goal.returns-clause-less

@@ -1,12 +1,17 @@
-use Rattle.std.proofs.Common.{ap, sym, ◌∙◌}
-use Rattle.inp_text.specs.Items.{before_comment}
-use Rattle.inp_text.specs.FirstItems.{take_solid, drop_blanks}
-use Rattle.inp_text.proofs.FirstItem.{first_of-front}
+use Rattle.std.proofs.Common.{◌∙◌, sym}
+use Rattle.inp_text.proofs.Representing.{no-item, one-item}
 use Rattle.inp_text.proofs.heading.first_item.Goals as goal
 
+pub returns-then-is_empty : goal.returns-then-is_empty
+returns-then-is_empty c = record {
+  value =
+      no-item c.args.line.now c.front_item-item.result.now c.front_item-item.ensures
+      (sym c.is_empty.ensures ∙ c.if-is_empty.true);
+}
+
 pub returns : goal.returns
-returns c =
-    c.without_rest.ensures
-    ∙ ap take_solid c.without_blanks.ensures
-    ∙ ap (λ text. take_solid (drop_blanks text)) c.without_comment.ensures
-    ∙ sym (first_of-front (before_comment c.args.line.now))
+returns c = record {
+  value =
+      one-item c.args.line.now c.front_item-item.result.now c.front_item-item.ensures
+      (sym c.is_empty.ensures ∙ c.if-is_empty.false);
+}

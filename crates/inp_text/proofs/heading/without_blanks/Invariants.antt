@@ -1,5 +1,5 @@
 use Rattle.std.proofs.Common.{◌≡◌, drop}
-use Rattle.inp_text.specs.FirstItems.{drop_blanks}
+use Rattle.inp_text.specs.internal.FirstItems.{drop_blanks}
 use Rattle.inp_text.proofs.heading.without_blanks.Given as goal
 
 abbrev pub invariant-loop-index : goal.invariant-loop-index

@@ -1,5 +1,5 @@
 use Rattle.std.proofs.Common.{◌≡◌, ◌++◌, take, drop}
-use Rattle.inp_text.specs.FirstItems.{take_solid}
+use Rattle.inp_text.specs.internal.FirstItems.{take_solid}
 use Rattle.inp_text.proofs.heading.without_rest.Given as goal
 
 abbrev pub invariant-loop-index : goal.invariant-loop-index

@@ -1,14 +1,15 @@
-use Rattle.inp_text.proofs.PlaceLemmas.{is-item_place, item_place-is, item_places-rise, texts_at-item_places, IsPlace-item_places}
+use Rattle.inp_text.proofs.PublicLaws.{places_of_items-runs, places_of_items-order}
+use Rattle.inp_text.proofs.PublicLaws.{places_of_items-texts, places_of_items-within}
 use Rattle.inp_text.proofs.laws.places_of_items.Goals as goal
 
 pub returns-clause-runs : goal.returns-clause-runs
-returns-clause-runs c line place = (is-item_place line place, item_place-is line place)
+returns-clause-runs c = places_of_items-runs
 
 pub returns-clause-order : goal.returns-clause-order
-returns-clause-order c = item_places-rise
+returns-clause-order c = places_of_items-order
 
 pub returns-clause-texts : goal.returns-clause-texts
-returns-clause-texts c = texts_at-item_places
+returns-clause-texts c = places_of_items-texts
 
 pub returns-clause-within : goal.returns-clause-within
-returns-clause-within c = IsPlace-item_places
+returns-clause-within c = places_of_items-within

@@ -1,5 +1,5 @@
 -- The laws of equality.
-use Rattle.interval_sets.proofs.Cited.{equality-bound, equality-interval}
+use Rattle.interval_sets.proofs.PublicLaws.{equality-bound, equality-interval}
 use Rattle.interval_sets.proofs.laws.equality.Goals as goal
 
 pub returns-clause-bound : goal.returns-clause-bound

@@ -1,5 +1,5 @@
 -- The laws of normal form.
-use Rattle.interval_sets.proofs.Cited.{normal_form-unique, normal_form-not_empty, normal_form-apart}
+use Rattle.interval_sets.proofs.PublicLaws.{normal_form-unique, normal_form-not_empty, normal_form-apart}
 use Rattle.interval_sets.proofs.laws.normal_form.Goals as goal
 
 pub returns-clause-unique : goal.returns-clause-unique

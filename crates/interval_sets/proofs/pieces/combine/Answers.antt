@@ -1,22 +1,22 @@
 use Rattle.std.proofs.Common.{◌∙◌}
-use Rattle.interval_sets.specs.Edges.{edges_of}
+use Rattle.interval_sets.specs.internal.Edges.{edges_of}
 use Rattle.interval_sets.proofs.PieceEdges.{normal_rises, held_edges, combination_even, made_of_edges, combination_members, combination_normal}
 use Rattle.interval_sets.proofs.pieces.combine.Goals as goal
 
-pub merged-requires-clause-left_rises : goal.merged-requires-clause-left_rises
-merged-requires-clause-left_rises c =
+pub merge_edges-requires-clause-left_rises : goal.merge_edges-requires-clause-left_rises
+merge_edges-requires-clause-left_rises c =
     rw (c.deref.ensures.value, c.in_ok-left_edges.ensures.value) (normal_rises c.args.left.now c.requires.left_normal.rising)
 
-pub merged-requires-clause-left_held : goal.merged-requires-clause-left_held
-merged-requires-clause-left_held c =
+pub merge_edges-requires-clause-left_held : goal.merge_edges-requires-clause-left_held
+merge_edges-requires-clause-left_held c =
     rw (c.deref.ensures.value, c.in_ok-left_edges.ensures.value) (held_edges c.args.left.now c.requires.left_normal.held)
 
-pub merged-requires-clause-right_rises : goal.merged-requires-clause-right_rises
-merged-requires-clause-right_rises c =
+pub merge_edges-requires-clause-right_rises : goal.merge_edges-requires-clause-right_rises
+merge_edges-requires-clause-right_rises c =
     rw (c.deref-2.ensures.value, c.in_ok-right_edges.ensures.value) (normal_rises c.args.right.now c.requires.right_normal.rising)
 
-pub merged-requires-clause-right_held : goal.merged-requires-clause-right_held
-merged-requires-clause-right_held c =
+pub merge_edges-requires-clause-right_held : goal.merge_edges-requires-clause-right_held
+merge_edges-requires-clause-right_held c =
     rw (c.deref-2.ensures.value, c.in_ok-right_edges.ensures.value) (held_edges c.args.right.now c.requires.right_normal.held)
 
 pub pieces_of-requires-clause-even : goal.pieces_of-requires-clause-even
@@ -25,7 +25,7 @@ pieces_of-requires-clause-even c =
     (combination_even c.args.how c.args.left.now c.args.right.now c.deref.result.now c.deref-2.result.now c.in_ok-edges.edges.items
     (c.deref.ensures.value ∙ c.in_ok-left_edges.ensures.value)
     (c.deref-2.ensures.value ∙ c.in_ok-right_edges.ensures.value)
-    c.in_ok-edges.ensures.combined)
+    c.in_ok-edges.ensures.combination)
 
 pub returns-clause-members : goal.returns-clause-members
 returns-clause-members c =
@@ -34,7 +34,7 @@ returns-clause-members c =
     (c.deref.ensures.value ∙ c.in_ok-left_edges.ensures.value)
     (c.deref-2.ensures.value ∙ c.in_ok-right_edges.ensures.value)
     (c.in_ok-pieces.ensures.edges ∙ c.deref-3.ensures.value)
-    c.in_ok-edges.ensures.combined)
+    c.in_ok-edges.ensures.combination)
 
 pub returns-clause-normal : goal.returns-clause-normal
 returns-clause-normal c =
@@ -43,4 +43,4 @@ returns-clause-normal c =
     (c.deref.ensures.value ∙ c.in_ok-left_edges.ensures.value)
     (c.deref-2.ensures.value ∙ c.in_ok-right_edges.ensures.value)
     (c.in_ok-pieces.ensures.edges ∙ c.deref-3.ensures.value)
-    c.in_ok-edges.ensures.combined)
+    c.in_ok-edges.ensures.combination)

@@ -1,5 +1,5 @@
 use Rattle.std.proofs.Common.{◌≡◌, take}
-use Rattle.interval_sets.specs.Edges.{edges_of}
+use Rattle.interval_sets.specs.internal.Edges.{edges_of}
 use Rattle.interval_sets.proofs.pieces.edges_of.Given as goal
 
 abbrev pub invariant-loop-piece : goal.invariant-loop-piece

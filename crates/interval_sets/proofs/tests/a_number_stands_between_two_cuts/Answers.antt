@@ -1,5 +1,5 @@
 use Rattle.exact_fraction.specs.Number.{zero, one}
-use Rattle.exact_fraction.proofs.Cited.{tests-less}
+use Rattle.exact_fraction.proofs.PublicLaws.{tests-less}
 use Rattle.interval_sets.proofs.CutOrder.{rising_two}
 use Rattle.interval_sets.proofs.EdgeOrder.{up}
 use Rattle.interval_sets.proofs.tests.a_number_stands_between_two_cuts.Goals as goal

@@ -1,5 +1,5 @@
 -- Counts, read and written.
-use Rattle.num_text.proofs.Cited.{counts-back, counts-written, counts-below}
+use Rattle.num_text.proofs.PublicLaws.{counts-back, counts-written, counts-below}
 use Rattle.num_text.proofs.laws.counts.Goals as goal
 
 pub returns-clause-back : goal.returns-clause-back

@@ -1,5 +1,5 @@
 -- What is read as a time, as hours and as a step.
-use Rattle.num_text.proofs.Cited.{readings-time, readings-hours, readings-step, readings-routing_step}
+use Rattle.num_text.proofs.PublicLaws.{readings-time, readings-hours, readings-step, readings-routing_step}
 use Rattle.num_text.proofs.laws.readings.Goals as goal
 
 pub returns-clause-time : goal.returns-clause-time

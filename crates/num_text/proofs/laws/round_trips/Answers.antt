@@ -1,4 +1,4 @@
-use Rattle.num_text.proofs.Cited.{round_trips-moment, round_trips-value, round_trips-one_moment, round_trips-one_value}
+use Rattle.num_text.proofs.PublicLaws.{round_trips-moment, round_trips-value, round_trips-one_moment, round_trips-one_value}
 use Rattle.num_text.proofs.laws.round_trips.Goals as goal
 
 pub returns-clause-moment : goal.returns-clause-moment

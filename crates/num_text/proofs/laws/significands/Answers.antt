@@ -1,4 +1,4 @@
-use Rattle.num_text.proofs.Cited.{significands-value, significands-least}
+use Rattle.num_text.proofs.PublicLaws.{significands-value, significands-least}
 use Rattle.num_text.proofs.laws.significands.Goals as goal
 
 pub returns-clause-value : goal.returns-clause-value

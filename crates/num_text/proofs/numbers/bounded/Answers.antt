@@ -28,17 +28,13 @@ returns-then-number-ge-LARGE c =
     let high : c.args.power ≤ℤ pos 18 = omega (arith, ints) in
     record { value = sym (bounded-large c.args.negative c.args.number c.args.power low high c.if-number-ge-LARGE.true) }
 
-pub in_bounds-requires-clause-positive : goal.in_bounds-requires-clause-positive
-in_bounds-requires-clause-positive c = rw c.pow.ensures (ten_pos c.places_of-places.result)
-
 pub returns-then-power-lt0 : goal.returns-then-power-lt0
 returns-then-power-lt0 c =
     let low : negsuc 17 ≤ℤ c.args.power = omega (arith, ints) in
     let high : c.args.power ≤ℤ pos 18 = omega (arith, ints) in
     let down : c.args.power <ℤ pos 0 = omega (arith, ints) in
-    let below = c.pow.ensures ∙ ap (λ k. 10 ^ k) (c.places_of-places.ensures.value ∙ ap unsigned_abs (to_z-of_z w128 c.args.power c.ranges.power)) in
     record {
-      value = c.in_bounds.ensures.value ∙ ap (λ d. in_bounds (ratio (signed c.args.negative c.args.number) d)) below
+      value = c.lowered.ensures.value ∙ ap (λ k. in_bounds (ratio (signed c.args.negative c.args.number) (10 ^ k))) (c.places_of-places.ensures.value ∙ ap unsigned_abs (to_z-of_z w128 c.args.power c.ranges.power))
           ∙ ap in_bounds (sym (scaled-down c.args.negative c.args.number c.args.power down))
           ∙ sym (bounded-in c.args.negative c.args.number c.args.power (omega arith) low high);
     }

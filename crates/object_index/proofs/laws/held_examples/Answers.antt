@@ -1,6 +1,6 @@
 use Rattle.std.proofs.Common.{rules, [], ◌∷◌, sym, true≢false}
 use Rattle.std.proofs.lemmas.List.Elements.{All-head}
-use Rattle.object_index.specs.Examples.{network, depth, variable, status, if_above, close}
+use Rattle.object_index.specs.examples.Objects.{network, depth, variable, status, if_above, close}
 use Rattle.object_index.specs.Holding.{HoldsCondition, HoldsKind, HoldsLink}
 use Rattle.object_index.proofs.laws.held_examples.Goals as goal
 

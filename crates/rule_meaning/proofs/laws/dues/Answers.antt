@@ -1,5 +1,6 @@
 -- The laws of rows.
-use Rattle.rule_meaning.proofs.Cited.{dues-every_row, dues-due, dues-not_due, dues-not_due_keeps, dues-stop_keeps}
+use Rattle.rule_meaning.proofs.PublicLaws.{dues-every_row, dues-due, dues-not_due}
+use Rattle.rule_meaning.proofs.PublicLaws.{dues-not_due_keeps, dues-stop_keeps}
 use Rattle.rule_meaning.proofs.laws.dues.Goals as goal
 
 pub returns-clause-every_row : goal.returns-clause-every_row

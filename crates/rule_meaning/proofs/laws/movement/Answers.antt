@@ -1,5 +1,7 @@
 -- The laws of movement.
-use Rattle.rule_meaning.proofs.Cited.{movement-at_once, movement-up, movement-down, movement-number, movement-at_target, movement-on_the_way}
+use Rattle.rule_meaning.proofs.PublicLaws.{movement-at_once, movement-up, movement-down}
+use Rattle.rule_meaning.proofs.PublicLaws.{movement-number, movement-at_target}
+use Rattle.rule_meaning.proofs.PublicLaws.{movement-on_the_way}
 use Rattle.rule_meaning.proofs.laws.movement.Goals as goal
 
 pub returns-clause-at_once : goal.returns-clause-at_once

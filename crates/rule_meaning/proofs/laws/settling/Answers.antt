@@ -1,5 +1,7 @@
 -- The laws of settled pairs.
-use Rattle.rule_meaning.proofs.Cited.{settling-at_most_one, settling-at_least_one, settling-only_where_listed, settling-given, settling-none_given, settling-order_free}
+use Rattle.rule_meaning.proofs.PublicLaws.{settling-at_most_one, settling-at_least_one}
+use Rattle.rule_meaning.proofs.PublicLaws.{settling-only_where_listed, settling-given}
+use Rattle.rule_meaning.proofs.PublicLaws.{settling-none_given, settling-order_free}
 use Rattle.rule_meaning.proofs.laws.settling.Goals as goal
 
 pub returns-clause-at_most_one : goal.returns-clause-at_most_one

@@ -1,5 +1,5 @@
 -- The law of timers.
-use Rattle.rule_meaning.proofs.Cited.{timers-just_one}
+use Rattle.rule_meaning.proofs.PublicLaws.{timers-just_one}
 use Rattle.rule_meaning.proofs.laws.timers.Goals as goal
 
 pub returns : goal.returns

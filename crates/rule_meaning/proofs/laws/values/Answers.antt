@@ -1,5 +1,6 @@
 -- The laws of values.
-use Rattle.rule_meaning.proofs.Cited.{values-on_line, values-kept_step, values-kept, values-tables, values-pids}
+use Rattle.rule_meaning.proofs.PublicLaws.{values-on_line, values-kept_step, values-kept}
+use Rattle.rule_meaning.proofs.PublicLaws.{values-tables, values-pids}
 use Rattle.rule_meaning.proofs.laws.values.Goals as goal
 
 pub returns-clause-on_line : goal.returns-clause-on_line

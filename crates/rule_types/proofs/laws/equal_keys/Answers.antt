@@ -1,5 +1,5 @@
 -- The `==` of objects and keys tells whether two are equal.
-use Rattle.rule_types.proofs.Cited.{equal_keys-space, equal_keys-object_kind, equal_keys-object_word, equal_keys-object_no, equal_keys-attr, equal_keys-clock_attr, equal_keys-key}
+use Rattle.rule_types.proofs.PublicLaws.{equal_keys-space, equal_keys-object_kind, equal_keys-object_word, equal_keys-object_no, equal_keys-attr, equal_keys-clock_attr, equal_keys-key}
 use Rattle.rule_types.proofs.laws.equal_keys.Goals as goal
 
 pub returns : goal.returns

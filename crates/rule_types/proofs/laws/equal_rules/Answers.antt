@@ -1,5 +1,5 @@
 -- The `==` of rules and their parts tells whether two are equal.
-use Rattle.rule_types.proofs.Cited.{equal_rules-side, equal_rules-right, equal_rules-condition, equal_rules-curve_no, equal_rules-series_no, equal_rules-pid_set, equal_rules-what, equal_rules-action, equal_rules-branch, equal_rules-action_at, equal_rules-rule, equal_rules-expr, equal_rules-name_kind, equal_rules-name_def, equal_rules-rules}
+use Rattle.rule_types.proofs.PublicLaws.{equal_rules-side, equal_rules-right, equal_rules-condition, equal_rules-curve_no, equal_rules-series_no, equal_rules-pid_set, equal_rules-what, equal_rules-action, equal_rules-branch, equal_rules-action_at, equal_rules-rule, equal_rules-expr, equal_rules-name_kind, equal_rules-name_def, equal_rules-rules}
 use Rattle.rule_types.proofs.laws.equal_rules.Goals as goal
 
 pub returns : goal.returns

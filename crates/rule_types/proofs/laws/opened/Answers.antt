@@ -1,6 +1,7 @@
 -- What the closed words of well formed rules say.
-use Rattle.rule_types.proofs.Cited.{opened-orders, opened-times, opened-pid_places, opened-listed, opened-pids, opened-key_stands, opened-link_stands, opened-memories}
+use Rattle.rule_types.proofs.PublicLaws.{opened-orders, opened-times, opened-lists}
+use Rattle.rule_types.proofs.PublicLaws.{opened-pid_places}
 use Rattle.rule_types.proofs.laws.opened.Goals as goal
 
 pub returns : goal.returns
-returns c = record { orders = opened-orders; times = opened-times; pid_places = opened-pid_places; listed = opened-listed; pids = opened-pids; key_stands = opened-key_stands; link_stands = opened-link_stands; memories = opened-memories }
+returns c = record { orders = opened-orders; times = opened-times; lists = opened-lists; pid_places = opened-pid_places }

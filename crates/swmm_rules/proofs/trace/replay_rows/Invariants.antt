@@ -1,6 +1,6 @@
 use Rattle.std.proofs.Common.{◌≡◌, ℕ, ◌+◌, ◌<◌, ◌≤◌, List, false, length, All}
-use Rattle.byte_edge.specs.Devices.{SameElsewhere}
-use Rattle.byte_edge.specs.ReaderState.{WhereTold, KnowsEnd}
+use Rattle.byte_edge.specs.Devices.{IsCallOn}
+use Rattle.byte_edge.specs.ReaderState.{WhenKnown, KnowsEnd}
 use Rattle.small_model.specs.Models.{contents_of}
 use Rattle.swmm_rules.specs.Kept.{kept_of}
 use Rattle.swmm_rules.proofs.Progress.{Progress}
@@ -17,12 +17,12 @@ invariant-rows g l = record {
   rules : All (λ rule. rule.pump < length (kept_of l.replay).settings) l.model.rules.items;
   within : All (λ pump. pump < length (kept_of l.replay).settings) l.pumps;
   number : l.number + l.reader.room ≤ 2 + l.initial.reader.room;
-  told : WhereTold (g.F.Files.left l.initial.files 1) (g.F.Files.left l.files 1) (λ before after.
+  told : WhenKnown (g.F.Files.left l.initial.files 1) (g.F.Files.left l.files 1) (λ before after.
       Progress (contents_of l.model) (kept_of l.initial.replay) (kept_of l.replay) l.number l.initial.reader l.reader before after
       (g.O.Sink.written l.initial.out) (g.O.Sink.written l.out));
-  names : (name : List ℕ) → g.F.Files.held l.files name ≡ g.F.Files.held l.initial.files name;
-  other_slots : SameElsewhere 1 (g.F.Files.left l.initial.files) (g.F.Files.left l.files);
-  counts : (k : ℕ) → g.F.Files.faults l.files k ≡ g.F.Files.faults l.initial.files k;
+  call : IsCallOn 1 false (g.F.Files.is_open l.initial.files) (g.F.Files.is_open l.files)
+      (g.F.Files.held l.initial.files) (g.F.Files.held l.files) (g.F.Files.left l.initial.files) (g.F.Files.left l.files)
+      (g.F.Files.faults l.initial.files) (g.F.Files.faults l.files);
   count : g.O.Sink.faults l.out ≡ g.O.Sink.faults l.initial.out;
 }
 

@@ -9,7 +9,7 @@ use Rattle.byte_edge.proofs.memory_files.MemoryFilesFiles.read.Goals as goal
 abbrev from : List Entry → Option Place → Option (List ℕ)
 from entries place = option_map (λ place. drop place.at (bytes_at entries place.entry)) place
 
--- the slot gave `count` bytes, and stands that much later
+-- the slot gave `count` bytes, and its place is that much later
 taken : (entries : List Entry) (places : List (Option Place)) (slot count room cut : ℕ) (place : Place) (given : List ℕ)
     → slot < length places → get_or places slot None ≡ Some place
     → take count given ≡ take count (drop place.at (bytes_at entries place.entry))

@@ -1,15 +1,33 @@
-use Rattle.object_index.proofs.Entries.{kept-more, added-more}
+use Rattle.std.proofs.Common.{◌∙◌, ◌++◌, ◌∷◌, [], List, ap, sym, length, arith}
+use Rattle.std.specs.List.{list_any}
+use Rattle.std.specs.Str.{bytes_eq}
+use Rattle.object_index.specs.Objects.{Object, is_named, and_object}
+use Rattle.object_index.specs.internal.Objects.{objects_of}
+use Rattle.object_index.proofs.Spaces.{names-objects_of, length-objects_of, objects-push}
 use Rattle.object_index.proofs.space_names.SpaceNames.add_new.Goals as goal
 
-pub invariant_of-self-2 : goal.invariant_of-self-2
-invariant_of-self-2 c =
-    kept-more c.args.name.now c.as_slice.result.now c.args.kind c.len-number.result c.in-Ok.copy c.in-Ok-to_ascii_lowercase.folded c.place_after-place.result
-    c.self.inside.objects.entries c.insert.new.self.entries c.self.inside.caseless.entries c.reserve.new.self.entries c.insert-2.new.self.entries c.args.self.now
-    c.self.view_is c.self.invariant c.requires.few c.requires.absent
-    c.in-Ok.ensures.items c.in-Ok-to_ascii_lowercase.ensures.ok c.as_slice.ensures.value c.len-number.ensures.len c.reserve.ensures.entries
-    c.place_after-place.ensures c.in-Ok-insert.ensures.entries c.in-Ok-insert-2.ensures.entries
+pub add_new-requires-clause-few : goal.add_new-requires-clause-few
+add_new-requires-clause-few c =
+    let long = length-objects_of c.self.inside.names c.self.inside.kinds.items c.self.invariant in
+    let all = ap length c.self.view_is in
+    omega (arith, long, all, c.requires.few)
 
-pub returns-clause-added : goal.returns-clause-added
-returns-clause-added c =
-    added-more c.args.name.now c.args.kind c.in-Ok.copy c.self.inside.objects.entries c.insert.new.self.entries c.args.self.now
-    c.self.view_is c.requires.absent c.in-Ok.ensures.items c.in-Ok-insert.ensures.entries
+pub add_new-requires-clause-absent : goal.add_new-requires-clause-absent
+add_new-requires-clause-absent c =
+    ap (list_any (bytes_eq c.args.name.now))
+    (sym (names-objects_of c.self.inside.names c.self.inside.kinds.items c.self.invariant))
+    ∙ ap (is_named c.args.name.now) c.self.view_is ∙ c.requires.absent
+
+pub returns-in-Ok-add_new-clause-number : goal.returns-in-Ok-add_new-clause-number
+returns-in-Ok-add_new-clause-number c =
+    c.in-Ok-add_new.ensures.number
+    ∙ sym (length-objects_of c.self.inside.names c.self.inside.kinds.items c.self.invariant)
+    ∙ ap length c.self.view_is
+
+pub returns-in-Ok-add_new-clause-added : goal.returns-in-Ok-add_new-clause-added
+returns-in-Ok-add_new-clause-added c =
+    ap (λ names. objects_of names c.push.new.self.items) c.in-Ok-add_new.ensures.added
+    ∙ ap (objects_of (c.self.inside.names ++ c.args.name.now ∷ [])) c.in-Ok.ensures.items
+    ∙ objects-push c.self.inside.names c.self.inside.kinds.items c.args.name.now c.args.kind
+    c.self.invariant
+    ∙ ap (λ (objects : List Object). and_object objects c.args.kind c.args.name.now) c.self.view_is

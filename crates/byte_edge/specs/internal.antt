@@ -1,0 +1,4 @@
+-- Words of the contracts inside the crate, which no public clause speaks of.
+pub mod LineParts
+pub mod Gathered
+pub mod Reading

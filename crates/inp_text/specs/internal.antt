@@ -1,0 +1,3 @@
+pub mod AddsLine
+pub mod FirstItems
+pub mod Represents

@@ -1,0 +1,5 @@
+pub mod AttributeWords
+pub mod Hours
+pub mod PublicLaws
+pub mod Tables
+pub mod WordTables

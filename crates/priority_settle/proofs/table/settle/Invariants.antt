@@ -1,6 +1,0 @@
-use Rattle.std.proofs.Common.{◌≡◌, take}
-use Rattle.priority_settle.specs.Firsts.{settled_each}
-use Rattle.priority_settle.proofs.table.settle.Given as goal
-
-abbrev pub invariant-loop-at : goal.invariant-loop-at
-invariant-loop-at l = l.firsts.items ≡ settled_each l.fn.rules.rules l.fn.rules.controlled (take l.at-index l.listed)
