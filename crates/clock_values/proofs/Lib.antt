@@ -1,0 +1,9 @@
+pub mod ClockDays
+pub mod ClockHulls
+pub mod EndsFit
+pub mod HalfSteps
+pub mod Made
+pub mod Passing
+pub mod PublicLaws
+pub mod SecondsTell
+pub mod WindowTells

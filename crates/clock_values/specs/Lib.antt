@@ -1,0 +1,4 @@
+pub mod Seconds
+pub mod Steps
+pub mod Windows
+pub mod internal

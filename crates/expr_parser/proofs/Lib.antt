@@ -1,0 +1,10 @@
+pub mod Turns
+pub mod Cutting
+pub mod Accepted
+pub mod Nesting
+pub mod Readings
+pub mod Sound
+pub mod LongestNumbers
+pub mod Fitting
+pub mod ExampleWords
+pub mod PublicLaws

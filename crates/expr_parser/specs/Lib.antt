@@ -1,0 +1,9 @@
+pub mod Bytes
+pub mod Tokens
+pub mod Names
+pub mod Parsers
+pub mod Formulas
+pub mod Reading
+pub mod LongestNumbers
+pub mod internal
+pub mod examples

@@ -1,0 +1,9 @@
+pub mod PlaceSteps
+pub mod NameSteps
+pub mod ColumnSteps
+pub mod PremiseSteps
+pub mod MarkSteps
+pub mod PlanSteps
+pub mod PublicLaws
+pub mod Zips
+pub mod RowSteps

@@ -1,0 +1,4 @@
+pub mod FormulaReading
+pub mod NameReading
+pub mod ColumnReading
+pub mod Marks

@@ -1,0 +1,2 @@
+-- Words of the contracts inside the crate, which no public clause speaks of.
+pub mod Waiting
