@@ -1,0 +1,3 @@
+-- What the contracts of this crate speak of: what a replay keeps of the rows so far.
+pub mod Kept
+pub mod Standing

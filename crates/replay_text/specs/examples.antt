@@ -1,0 +1,2 @@
+-- What the worked examples speak of.
+pub mod Station

@@ -1,0 +1,10 @@
+pub mod Blanks
+pub mod Commas
+pub mod Filled
+pub mod Finding
+pub mod June
+pub mod Marks
+pub mod Plain
+pub mod RecordFields
+pub mod RowsIn
+pub mod Steps

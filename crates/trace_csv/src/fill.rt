@@ -1,0 +1,71 @@
+//! The inputs of a row, filled in from its fields.
+ghost use Rattle.std.specs.Prelude.{◌≡◌, ◌<◌, ◌+◌, length, drop, All, option_map};
+ghost use Rattle.csv.specs.Records.{fields_of};
+ghost use Rattle.trace_csv.specs.Fields.{further_fields};
+ghost use Rattle.trace_csv.specs.internal.Filling.{Within, put_field as put, filled, where_good};
+ghost use Rattle.trace_csv.specs.internal.Filling.{cut_behind};
+
+use crate::field::field_input;
+use crate::record::next_field;
+use csv::ByteRecord;
+use exact_fraction::frac::Frac;
+
+/// Writes what the field of a column says. False where the field is bad.
+fn put_field(column: &Option<usize>, field: &[u8], inputs: &mut [Option<Frac>]) -> bool
+    requires within { Within (length inputs.old) column.now }
+    ensures { where_good result inputs.new ≡ put column.now field.now inputs.old }
+{
+    let Some(place) = column else {
+        return true;
+    };
+    let Ok(input) = field_input(field) else {
+        return false;
+    };
+    inputs[*place] = input;
+    true
+}
+
+/// Writes what the fields of a text that is cut at its commas say. False where one is bad.
+pub(crate) fn fill_from_text(
+    columns: &[Option<usize>],
+    text: Option<&[u8]>,
+    inputs: &mut [Option<Frac>],
+) -> bool
+    requires within { All (Within (length inputs.old)) columns.now }
+    ensures { where_good result inputs.new
+        ≡ filled columns.now (cut_behind (option_map (λ rest. rest.now) text.entry)) inputs.old }
+{
+    let mut behind = text;
+    for at in 0..columns.len() {
+        let Some(rest) = behind else {
+            return true;
+        };
+        let cut = next_field(rest);
+        if !put_field(&columns[at], cut.field, inputs) {
+            return false;
+        }
+        behind = cut.behind;
+    }
+    true
+}
+
+/// Writes what the fields of a record behind its first say. False where one is bad.
+pub(crate) fn fill_from_record(
+    columns: &[Option<usize>],
+    row: &ByteRecord,
+    inputs: &mut [Option<Frac>],
+) -> bool
+    requires within { All (Within (length inputs.old)) columns.now }
+    ensures { where_good result inputs.new
+        ≡ filled columns.now (further_fields (fields_of row.now)) inputs.old }
+{
+    for at in 0..columns.len() {
+        let Some(field) = row.get(at + 1) else {
+            return true;
+        };
+        if !put_field(&columns[at], field, inputs) {
+            return false;
+        }
+    }
+    true
+}

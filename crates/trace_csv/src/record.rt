@@ -1,0 +1,106 @@
+//! The record of a line.
+ghost use Rattle.std.specs.Prelude.{◌≡◌, ◌∷◌, ◌<◌, ◌+◌, ◌==◌, IfOk, IfSome, option_map, length};
+ghost use Rattle.std.specs.List.{list_all, position};
+ghost use Rattle.csv.specs.Records.{fields_of};
+ghost use Rattle.trace_csv.specs.Fields.{first_field as first_of_fields};
+ghost use Rattle.trace_csv.specs.Records.{record_of, comma, is_plain};
+ghost use Rattle.trace_csv.specs.Records.{is_plain_line as plain_line, cut_at_commas};
+ghost use Rattle.trace_csv.specs.internal.Filling.{cut_behind};
+
+use byte_edge::NoMemory;
+use csv::{ByteRecord, ReaderBuilder};
+use std::alloc::Global;
+
+/// The first record of a line, or None where it has none.
+#[tactic(auto, unfolding(crate::specs::Records::record_of))]
+pub(crate) fn record_in(alloc: Global, line: &[u8]) -> Result<Option<ByteRecord>, NoMemory>
+    ensures { IfOk result (λ found. option_map fields_of found ≡ record_of line.now) }
+{
+    let mut reader = ReaderBuilder::new()
+        .has_headers(false)
+        .from_reader(alloc, line);
+    let mut record = ByteRecord::new(alloc);
+    match reader.read_byte_record(&mut record) {
+        Ok(true) => Ok(Some(record)),
+        Ok(false) => Ok(None),
+        Err(_) => Err(NoMemory),
+    }
+}
+
+/// The first field of a record.
+#[tactic(auto, using(crate::proofs::RecordFields::first_some, crate::proofs::RecordFields::first_none))]
+pub(crate) fn first_field(row: &ByteRecord) -> &[u8]
+    ensures { result.now ≡ first_of_fields (fields_of row.now) }
+{
+    match row.get(0) {
+        Some(field) => field,
+        None => b"",
+    }
+}
+
+/// Whether the record of a line is the line cut at its commas: it has a byte, no double quote, no
+/// CR and no LF, and does not begin as a byte order mark does.
+pub(crate) fn is_plain_line(line: &[u8]) -> bool
+    ensures { result ≡ plain_line line.now }
+{
+    if line.is_empty() {
+        return false;
+    }
+    if line[0] == 239 {
+        return false;
+    }
+    has_plain_bytes(line)
+}
+
+/// Whether no byte is a double quote, CR or LF.
+fn has_plain_bytes(line: &[u8]) -> bool
+    ensures { result ≡ list_all is_plain line.now }
+{
+    line.iter().all(|byte| !(*byte == b'"' || (*byte == b'\r' || *byte == b'\n')))
+}
+
+/// The first field of a text that is cut at its commas, and the text behind the comma at its end,
+/// if it has one.
+#[derive(Clone, Copy)]
+pub(crate) struct Cut<'a> {
+    pub(crate) field: &'a [u8],
+    pub(crate) behind: Option<&'a [u8]>,
+}
+
+/// Cuts the first field off a text.
+pub(crate) fn next_field(text: &[u8]) -> Cut<'_>
+    ensures { cut_at_commas text.now
+        ≡ result.field.now ∷ cut_behind (option_map (λ rest. rest.now) result.behind) }
+{
+    match comma_at(text) {
+        Some(at) => Cut {
+            field: &text[..at],
+            behind: Some(&text[at + 1..]),
+        },
+        None => Cut {
+            field: text,
+            behind: None,
+        },
+    }
+}
+
+/// The place of the first comma.
+fn comma_at(text: &[u8]) -> Option<usize>
+    ensures value { result ≡ position (λ byte. byte == comma) text.now }
+    ensures within { IfSome result (λ at. at < length text.now) }
+{
+    text.iter().position(|byte| *byte == b',')
+}
+
+/// The number of commas of a text.
+pub(crate) fn comma_count(text: &[u8]) -> usize
+    ensures { length (cut_at_commas text.now) ≡ 1 + result }
+{
+    let mut count: usize = 0;
+    for byte in text {
+        if *byte == b',' {
+            count += 1;
+        }
+    }
+    count
+}
