@@ -1,0 +1,15 @@
+pub mod ExampleWords
+pub mod FirstItems
+pub mod GroupPuts
+pub mod PairSteps
+pub mod DayHours
+pub mod LineSteps
+pub mod EntrySteps
+pub mod PlaceValues
+pub mod UsedNames
+pub mod Rising
+pub mod Pointed
+pub mod HeldTables
+pub mod TableLines
+pub mod PointsRead
+pub mod PublicLaws

@@ -1,0 +1,9 @@
+pub mod ExampleWords
+pub mod HullBack
+pub mod OnLine
+pub mod Passed
+pub mod HullHolds
+pub mod SecondTests
+pub mod HullParts
+pub mod HullLaws
+pub mod PublicLaws

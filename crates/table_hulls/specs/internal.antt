@@ -1,0 +1,2 @@
+-- What the clauses of private functions alone speak of.
+pub mod Arguments
