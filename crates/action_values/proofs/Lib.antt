@@ -1,0 +1,4 @@
+pub mod LinkSteps
+pub mod OrderSteps
+pub mod PidSteps
+pub mod SideSteps
