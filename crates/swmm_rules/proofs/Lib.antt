@@ -1,12 +1,2 @@
-pub mod Complained
-pub mod Digits
-pub mod Fresh
-pub mod Header
-pub mod Histories
-pub mod Inputs
-pub mod InMemory
-pub mod Prefixes
-pub mod Progress
-pub mod Ranges
-pub mod Runs
-pub mod Told
+-- Lemmas of this crate, over plain values.
+pub mod Usages

@@ -1,12 +1,3 @@
-pub mod Inputs
-pub mod Kept
-pub mod Memory
-pub mod Outcome
-pub mod Progress
-pub mod Replay
-pub mod Rows
-pub mod Runs
-pub mod Says
-pub mod Segment
-pub mod Statuses
-pub mod Steps
+-- The commands of the tool, and what each comes to.
+pub mod Commands
+pub mod Words

@@ -1,14 +1,11 @@
-//! The tool: its command over files and sinks.
+//! The tool: its commands over files and sinks.
 #![tactic(auto)]
 
-pub mod complaint;
-pub mod input;
-pub mod laws;
-pub mod memory;
-pub mod replay;
-pub mod run;
-pub mod says;
-pub mod status;
+mod command;
+mod run_command;
+
+pub use command::{Command, command_of};
+pub use run_command::run;
+
 #[cfg(test)]
 mod tests;
-pub mod trace;

@@ -4,7 +4,7 @@
 use byte_edge::{HostFiles, HostSink};
 use std::env;
 use std::process::ExitCode;
-use swmm_rules::run::run;
+use swmm_rules::run;
 
 /// The status where the runtime does not give the program its words.
 const NO_WORDS: u8 = 7;

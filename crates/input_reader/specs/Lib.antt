@@ -1,0 +1,2 @@
+-- What is read of the input file.
+pub mod Reading

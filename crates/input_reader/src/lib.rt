@@ -1,0 +1,9 @@
+//! The input file, read to its end and kept by section.
+#![tactic(auto)]
+
+mod input_lines;
+
+pub use input_lines::read_sections;
+
+#[cfg(test)]
+mod tests;

@@ -1,0 +1,5 @@
+pub mod Networks
+pub mod OptionBounds
+pub mod PublicLaws
+pub mod Starts
+pub mod ValueBounds

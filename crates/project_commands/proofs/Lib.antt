@@ -1,0 +1,6 @@
+-- Lemmas of this crate, over plain values.
+pub mod Causes
+pub mod Stops
+pub mod InputJudged
+pub mod WholeFiles
+pub mod PublicLaws

@@ -1,0 +1,4 @@
+-- What the commands on an input file and a trace come to.
+pub mod InputRefusals
+pub mod Checks
+pub mod Replays

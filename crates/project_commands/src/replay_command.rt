@@ -1,0 +1,55 @@
+//! The command `replay`.
+ghost use Rattle.std.specs.Prelude.{◌≡◌, List, IfOk};
+ghost use Rattle.byte_edge.specs.Lines.{LineEvent};
+ghost use Rattle.command_outputs.specs.Commands.{Performs};
+ghost use Rattle.rule_types.specs.Tables.{HoldsTables};
+ghost use Rattle.rule_types.specs.WellFormed.{WellFormed};
+ghost use Rattle.project_commands.specs.Replays.{replay_outcome, replay_roles, replay_printed};
+
+use crate::input::read_input;
+use byte_edge::{Files, NoMemory, Sink};
+use command_outputs::{Complaint, Completion};
+use plain_replay::PlainReads;
+use replay_printer::ReplayPrinter;
+use rule_parser::Project;
+use std::alloc::Global;
+use streamed_lines::{LinePrinter, stream_trace};
+
+/// `replay IN TRACE`: reads the input file, and then replays its rules over the trace, row by row.
+pub fn replay<F: Files, O: Sink>(
+    alloc: Global,
+    input: &str,
+    trace: &str,
+    files: &mut F,
+    out: &mut O,
+) -> Result<Completion, Complaint>
+    ensures performs { Performs replay_roles
+        (replay_outcome (F.held files.old) input.now trace.now)
+        (F.is_open files.new) (F.left files.old) (F.left files.new)
+        (F.faults files.old) (F.faults files.new)
+        (O.written out.old) (O.written out.new) (O.faults out.old) (O.faults out.new) result }
+{
+    let project = read_input(alloc, input, files)?;
+    let Ok(mut printer) = printer_of(alloc, &project) else {
+        return Err(Complaint::OutOfMemory);
+    };
+    stream_trace(alloc, &mut printer, trace, files, out)
+}
+
+/// The printer of a replay before the first line of the trace.
+fn printer_of<'a>(
+    alloc: Global,
+    project: &'a Project,
+) -> Result<ReplayPrinter<'a, PlainReads<'a>>, NoMemory>
+    requires well_formed { WellFormed project.now.rules }
+    requires tables { HoldsTables project.now.tables project.now.rules.rules }
+
+    ensures ready { IfOk result (λ printer.
+        ⟦<ReplayPrinter<'a, PlainReads<'a>> as LinePrinter>⟧.is_ready printer) }
+    ensures prints { IfOk result (λ printer. (lines : List LineEvent)
+        → ⟦<ReplayPrinter<'a, PlainReads<'a>> as LinePrinter>⟧.printed printer 1 lines
+        ≡ replay_printed project.now lines) }
+{
+    let readings = PlainReads::new(alloc, &project.rules, &project.tables)?;
+    ReplayPrinter::new(alloc, &project.rules, &project.objects, readings)
+}

@@ -1,0 +1,14 @@
+pub mod Composes
+pub mod ControlsFit
+pub mod ControlsRead
+pub mod DraftFits
+pub mod ExampleWords
+pub mod Ordered
+pub mod Parts
+pub mod RulesRead
+pub mod SidesFit
+pub mod Sums
+pub mod TableNames
+pub mod TablesHeld
+pub mod TablesUsed
+pub mod WholeRules

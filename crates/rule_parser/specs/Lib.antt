@@ -1,0 +1,9 @@
+pub mod Actions
+pub mod Conditions
+pub mod Controls
+pub mod Declarations
+pub mod Formulas
+pub mod Limits
+pub mod Projects
+pub mod examples
+pub mod internal

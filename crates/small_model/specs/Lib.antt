@@ -1,9 +1,0 @@
-pub mod Examples
-pub mod FileNames
-pub mod Forms
-pub mod Lines
-pub mod Models
-pub mod Names
-pub mod Refusals
-pub mod Sections
-pub mod Standing

@@ -1,3 +1,0 @@
-pub mod Moment
-pub mod Row
-pub mod Told

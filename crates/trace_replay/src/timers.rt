@@ -1,0 +1,51 @@
+//! The timers of links.
+ghost use Rattle.std.specs.Prelude.{◌≡◌, length};
+ghost use Rattle.rule_meaning.specs.History.{stayed};
+ghost use Rattle.rule_meaning.specs.Replay.{counted_from as begins, timer_at, links_at};
+
+use crate::hours::SharedHours;
+use exact_fraction::frac::Frac;
+use exact_fraction::moment::Moment;
+use rule_types::LinkState;
+
+/// Sets the timer of each link to the hours since its last switch, or since the start where it was
+/// not switched yet; settings and targets stay. It takes no memory, and links with the same last
+/// switch share one division.
+pub(crate) fn set_timers(
+    links: &mut [LinkState],
+    switches: &[Option<Moment>],
+    start: Moment,
+    moment: Moment,
+)
+    requires each { length switches.now ≡ length links.old }
+    ensures links { links.new ≡ links_at start moment (stayed links.old) switches.now }
+{
+    let mut shared = SharedHours::new();
+    for at in (0..links.len()).rev() {
+        let timer = timer_of(&mut shared, switches[at], start, moment);
+        let old = &links[at];
+        let link = LinkState {
+            setting: old.setting,
+            target: old.target,
+            timer,
+        };
+        links[at] = link;
+    }
+}
+
+/// The timer of a link.
+fn timer_of(shared: &mut SharedHours, switch: Option<Moment>, start: Moment, moment: Moment) -> Frac
+    ensures { result ≡ timer_at start switch moment }
+{
+    shared.hours_of(moment.seconds() - counted_from(start, switch).seconds())
+}
+
+/// The moment from which a timer counts.
+fn counted_from(start: Moment, switch: Option<Moment>) -> Moment
+    ensures { result ≡ begins start switch }
+{
+    match switch {
+        Some(switch) => switch,
+        None => start,
+    }
+}
