@@ -1,0 +1,15 @@
+pub mod ActionHulls
+pub mod BoxExamples
+pub mod Boxes
+pub mod Certificates
+pub mod ClockHulls
+pub mod Events
+pub mod Examples
+pub mod Grids
+pub mod Hulls
+pub mod Premises
+pub mod Questions
+pub mod Reaches
+pub mod Shown
+pub mod Truths
+pub mod Verdicts
