@@ -23,18 +23,18 @@ over n below = record { num = pos n; below = below }
 abbrev pub point : Rational → Rational → Point
 point x y = record { x = x; y = y }
 
--- a control line that sets a link by the curve C1, and one by the series T1
+-- a control line that sets a link by a curve, and one by a series
 abbrev pub by_curve : SourceLine
 by_curve = line 3 (codes "THEN ORIFICE O1 SETTING = CURVE C1")
 
 abbrev pub by_series : SourceLine
 by_series = line 3 (codes "THEN ORIFICE O1 SETTING = TIMESERIES T1")
 
--- what is read where these are the lines of curves, and C1 is used
+-- what is read where these are the lines of curves, and the curve above is used
 abbrev pub with_curves : List SourceLine → Result TableSet Refusal
 with_curves lines = tables_in (by_curve ∷ []) lines []
 
--- what is read where these are the lines of series, and T1 is used
+-- what is read where these are the lines of series, and the series above is used
 abbrev pub with_series : List SourceLine → Result TableSet Refusal
 with_series lines = tables_in (by_series ∷ []) [] lines
 
