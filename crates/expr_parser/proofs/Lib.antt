@@ -7,4 +7,5 @@ pub mod Sound
 pub mod LongestNumbers
 pub mod Fitting
 pub mod ExampleWords
+pub mod Indexing
 pub mod PublicLaws

@@ -8,6 +8,7 @@ pub mod Parts
 pub mod RulesRead
 pub mod SidesFit
 pub mod Sums
+pub mod Noting
 pub mod TableNames
 pub mod TablesHeld
 pub mod TablesUsed

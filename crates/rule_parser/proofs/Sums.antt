@@ -5,6 +5,9 @@ use Rattle.std.specs.Prelude.{Result, Ok, Err, OnOk}
 use Rattle.byte_edge.specs.declared.failed.NoMemory.{NoMemory}
 use Rattle.rule_types.specs.Formulas.{formula_names}
 use Rattle.rule_types.specs.Reading.{keys_read, condition_reads, links_acted, variable_keys}
+use Rattle.rule_types.specs.Reading.{condition_keys, name_keys, side_names}
+use Rattle.rule_types.specs.declared.condition.Condition.{Condition}
+use Rattle.rule_types.specs.declared.condition.Side.TheVariants as side
 use Rattle.rule_types.specs.declared.expr.Expr.{Expr}
 use Rattle.rule_types.specs.declared.expr.Expr.TheVariants.{Add, Sub, Mul, Div, rolls-Add, rolls-Sub, rolls-Mul, rolls-Div}
 use Rattle.rule_types.specs.declared.expr.Expr.TheFolds.{fold-roll-Expr}
@@ -20,7 +23,8 @@ use Rattle.rule_types.specs.Keys.{is_input, link_read}
 use Rattle.rule_types.specs.declared.key.Key.{Key}
 use Rattle.rule_parser.specs.Projects.{keys_with, links_with}
 use Rattle.rule_parser.specs.declared.noted.Noted.{Noted}
-use Rattle.rule_parser.specs.internal.Views.{Notes, action_links}
+use Rattle.rule_parser.specs.internal.Noting.{Notes}
+use Rattle.rule_parser.specs.internal.Views.{action_links}
 
 -- keys and links behind others
 pub keys-append : (found one other : List Key)
@@ -85,6 +89,44 @@ notes_rule names before between after rules rule h k =
     (ap (λ more. keys_read names rules ++ more) (sym (append-nil (flat_map (condition_reads names) rule.conditions)))
     ∙ sym (flat_map-append (λ rule. flat_map (condition_reads names) rule.conditions) rules (rule ∷ [])))
     (notes-then before between after (keys_read names rules) (flat_map (condition_reads names) rule.conditions) h k)
+
+-- what one more condition reads
+pub notes_condition : (names : List NameDef) (before between after : Noted)
+    (conditions : List Condition) (condition : Condition)
+    → Notes before between (flat_map (condition_reads names) conditions)
+    → Notes between after (condition_reads names condition)
+    → Notes before after (flat_map (condition_reads names) (conditions ++ condition ∷ []))
+notes_condition names before between after conditions condition h k =
+    notes-same before after
+    (flat_map (condition_reads names) conditions ++ condition_reads names condition)
+    (flat_map (condition_reads names) (conditions ++ condition ∷ []))
+    (ap (λ more. flat_map (condition_reads names) conditions ++ more)
+    (sym (append-nil (condition_reads names condition)))
+    ∙ sym (flat_map-append (condition_reads names) conditions (condition ∷ [])))
+    (notes-then before between after (flat_map (condition_reads names) conditions)
+    (condition_reads names condition) h k)
+
+-- what a condition reads whose left side is a name, and one whose left side is none
+pub notes_named : (names : List NameDef) (before between after : Noted) (condition : Condition)
+    (name : ℕ) → condition.left ≡ side.Expr name → Notes before between (condition_keys condition)
+    → Notes between after (name_keys names name)
+    → Notes before after (condition_reads names condition)
+notes_named names before between after condition name e h k =
+    notes-same before after (condition_keys condition ++ name_keys names name)
+    (condition_reads names condition)
+    (ap (λ more. condition_keys condition ++ more)
+    (sym (append-nil (name_keys names name))
+    ∙ ap (λ left. flat_map (name_keys names) (side_names left)) (sym e)))
+    (notes-then before between after (condition_keys condition) (name_keys names name) h k)
+
+pub notes_plain : (names : List NameDef) (before after : Noted) (condition : Condition) (key : Key)
+    → condition.left ≡ side.Key key → Notes before after (condition_keys condition)
+    → Notes before after (condition_reads names condition)
+notes_plain names before after condition key e h =
+    notes-same before after (condition_keys condition) (condition_reads names condition)
+    (sym (append-nil (condition_keys condition))
+    ∙ ap (λ left. condition_keys condition ++ flat_map (name_keys names) (side_names left)) (sym e))
+    h
 
 -- the links of one rule and of later ones
 pub links_rule : (found : List ℕ) (rule : Rule) (rules : List Rule)

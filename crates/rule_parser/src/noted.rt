@@ -2,10 +2,11 @@
 ghost use Rattle.std.specs.Prelude.{◌≡◌, [], ◌∷◌, IfOk, OnOk};
 ghost use Rattle.std.specs.List.{flat_map};
 ghost use Rattle.rule_types.specs.Formulas.{formula_names};
-ghost use Rattle.rule_types.specs.Reading.{right_keys, condition_reads, keys_read};
+ghost use Rattle.rule_types.specs.Reading.{right_keys, condition_keys, condition_reads, keys_read};
 ghost use Rattle.rule_types.specs.Reading.{variable_keys, name_keys, links_acted as acted_on};
 ghost use Rattle.rule_parser.specs.Projects.{keys_with, links_with};
-ghost use Rattle.rule_parser.specs.internal.Views.{Notes, action_links};
+ghost use Rattle.rule_parser.specs.internal.Noting.{Notes, NamesNoted};
+ghost use Rattle.rule_parser.specs.internal.Views.{action_links};
 
 use byte_edge::NoMemory;
 use list_types::Boxed;
@@ -53,42 +54,69 @@ pub(crate) struct Noted {
 }
 
 impl Noted {
-    /// Notes what rules read.
-    pub(crate) fn rules(&mut self, names: &[NameDef], rules: &[Rule]) -> Result<(), NoMemory>
+    /// Notes what rules read, in time in proportion to their conditions and to the formulas of the
+    /// names that they read, with an insertion into an ordered set for each key.
+    pub(crate) fn rules(
+        &mut self,
+        alloc: Global,
+        names: &[NameDef],
+        rules: &[Rule],
+    ) -> Result<(), NoMemory>
         ensures { OnOk result (Notes self.old self.new (keys_read names.now rules.now)) }
     {
+        let mut seen = BTreeSet::new(alloc);
         for rule in rules {
-            self.conditions(names, rule.conditions.as_slice())?;
+            self.conditions(names, &mut seen, rule.conditions.as_slice())?;
         }
         Ok(())
     }
 
-    /// Notes what conditions read.
-    #[tactic(auto, using(crate::proofs::Sums::notes_steps))]
-    fn conditions(&mut self, names: &[NameDef], conditions: &[Condition]) -> Result<(), NoMemory>
-        ensures { OnOk result (Notes self.old self.new
+    /// Notes what conditions read, where `seen` has the names that are noted.
+    fn conditions(
+        &mut self,
+        names: &[NameDef],
+        seen: &mut BTreeSet<u32>,
+        conditions: &[Condition],
+    ) -> Result<(), NoMemory>
+        requires seen { NamesNoted names.now self.old seen.old.keys }
+        ensures reads { OnOk result (Notes self.old self.new
             (flat_map (condition_reads names.now) conditions.now)) }
+        ensures seen { OnOk result (NamesNoted names.now self.new seen.new.keys) }
     {
         for condition in conditions {
-            self.condition(names, condition)?;
+            self.condition(names, seen, condition)?;
         }
         Ok(())
     }
 
-    /// Notes what a condition reads.
-    #[tactic(auto, using(crate::proofs::Sums::notes_steps))]
-    fn condition(&mut self, names: &[NameDef], condition: &Condition) -> Result<(), NoMemory>
-        ensures { OnOk result (Notes self.old self.new
+    /// Notes what a condition reads, where `seen` has the names that are noted.
+    fn condition(
+        &mut self,
+        names: &[NameDef],
+        seen: &mut BTreeSet<u32>,
+        condition: &Condition,
+    ) -> Result<(), NoMemory>
+        requires seen { NamesNoted names.now self.old seen.old.keys }
+        ensures reads { OnOk result (Notes self.old self.new
             (condition_reads names.now condition.now)) }
+        ensures seen { OnOk result (NamesNoted names.now self.new seen.new.keys) }
+    {
+        self.sides(condition)?;
+        match &condition.left {
+            Side::Key(_) => Ok(()),
+            Side::Expr(name) => self.name(names, seen, *name),
+        }
+    }
+
+    /// Notes what the sides of a condition read by themselves.
+    #[tactic(auto, using(crate::proofs::Sums::notes_steps))]
+    fn sides(&mut self, condition: &Condition) -> Result<(), NoMemory>
+        ensures { OnOk result (Notes self.old self.new (condition_keys condition.now)) }
     {
         if let Side::Key(key) = &condition.left {
             self.key(key)?;
         }
-        self.right(&condition.right)?;
-        if let Side::Expr(name) = &condition.left {
-            self.name(names, *name)?;
-        }
-        Ok(())
+        self.right(&condition.right)
     }
 
     /// Notes what a right side reads by itself.
@@ -101,9 +129,31 @@ impl Noted {
         }
     }
 
+    /// Notes what a name reads, where `seen` has the names that are noted: to note one of these
+    /// again changes nothing, so the formula of a name is gone through once.
+    fn name(
+        &mut self,
+        names: &[NameDef],
+        seen: &mut BTreeSet<u32>,
+        name: u32,
+    ) -> Result<(), NoMemory>
+        requires seen { NamesNoted names.now self.old seen.old.keys }
+        ensures reads { OnOk result (Notes self.old self.new (name_keys names.now name)) }
+        ensures seen { OnOk result (NamesNoted names.now self.new seen.new.keys) }
+    {
+        if seen.contains(&name) {
+            return Ok(());
+        }
+        self.new_name(names, name)?;
+        match seen.insert(name) {
+            Ok(_) => Ok(()),
+            Err(_) => Err(NoMemory),
+        }
+    }
+
     /// Notes what a name reads: a variable its key, an expression those of its variables.
     #[tactic(auto, using(crate::proofs::Sums::notes_steps))]
-    fn name(&mut self, names: &[NameDef], name: u32) -> Result<(), NoMemory>
+    fn new_name(&mut self, names: &[NameDef], name: u32) -> Result<(), NoMemory>
         ensures { OnOk result (Notes self.old self.new (name_keys names.now name)) }
     {
         self.variable(names, name)?;

@@ -41,9 +41,10 @@ pub struct Project {
 
 /// The project of an input file, or its first refusal: on the least line that fails a check, and
 /// there the first check that fails; NoMemory only where memory is out. It takes time in proportion
-/// to the file, and for each object, each name of a table and each name in a control line one
-/// look-up; an object's or a table's costs the logarithm of their number, a declared name's their
-/// number, which is at most 1,024 (the format is that of the SWMM 5.2 manual).
+/// to the file, and one look-up for each object, each name of a table and each name in a control
+/// line, which costs the logarithm of the number of such names, and so does an insertion for each
+/// link that a rule acts on and each key that it reads; the formula of an expression is gone through
+/// once, however many conditions read it (the format is that of the SWMM 5.2 manual).
 pub fn read_project(alloc: Global, sections: &Sections) -> Result<Project, ReadFault>
     ensures file { (earlier : List Line) → Represents sections.now earlier
         → Reads (project_of (reverse earlier)) result }

@@ -84,7 +84,7 @@ fn rules_with(
         keys: BTreeSet::new(alloc),
         links: links_acted(alloc, rules.as_slice())?,
     };
-    noted.rules(names.as_slice(), rules.as_slice())?;
+    noted.rules(alloc, names.as_slice(), rules.as_slice())?;
     let tracked = listed_links(alloc, &noted.links)?;
     let input_keys = listed_keys(alloc, &noted.keys)?;
     let pumps = pumps_among(alloc, &network.objects, controlled.as_slice())?;

@@ -1,10 +1,8 @@
 -- What the parts of the readers stand for in the words of the definitions.
-use Rattle.std.specs.Prelude.{◌≡◌, ℕ, List, [], ◌∷◌, filter, Option, None, Some, Result, Ok, Err}
+use Rattle.std.specs.Prelude.{◌≡◌, ℕ, List, [], ◌∷◌, Option, None, Some, Result, Ok, Err}
 use Rattle.std.specs.Prelude.{option_map}
 use Rattle.std.specs.List.{flat_map}
-use Rattle.rule_types.specs.Keys.{is_input, link_read}
 use Rattle.rule_types.specs.declared.action.Action.{Action}
-use Rattle.rule_types.specs.declared.key.Key.{Key}
 use Rattle.rule_types.specs.declared.refusal.Refusal.{Refusal}
 use Rattle.control_lines.specs.Faults.{FaultText, Checked, refusal_on}
 use Rattle.control_lines.specs.Statements.{Statement, Expression}
@@ -16,10 +14,9 @@ use Rattle.rule_parser.specs.declared.context.Context.{Context as CodeContext}
 use Rattle.inp_text.specs.declared.section_kind.SectionKind.{SectionKind}
 use Rattle.inp_text.specs.declared.source_line.SourceLine.{SourceLine}
 use Rattle.rule_types.specs.Refusals.{earlier}
-use Rattle.rule_parser.specs.Projects.{keys_with, links_with, long_refusal, texts_refusal}
+use Rattle.rule_parser.specs.Projects.{long_refusal, texts_refusal}
 use Rattle.rule_parser.specs.Projects.{read_sections}
 use Rattle.rule_parser.specs.declared.draft.Draft.{Draft}
-use Rattle.rule_parser.specs.declared.noted.Noted.{Noted}
 
 -- what control lines are read against
 abbrev pub context_now : CodeContext → Context
@@ -44,11 +41,6 @@ going_on (Some refusal) draft later = Err refusal
 -- the refusal of a line by what is reported of it
 abbrev pub told_refusal : ℕ → Option FaultText → Option Refusal
 told_refusal number told = option_map (refusal_on number) told
-
--- what was noted of keys: those that the trace gives in key order, and the links that they read
-pub record Notes (before after : Noted) (found : List Key) : Type 0 where
-  pub keys : after.keys.keys ≡ keys_with before.keys.keys (filter is_input found)
-  pub links : after.links.keys ≡ links_with before.links.keys (flat_map link_read found)
 
 -- the links of actions
 abbrev pub action_links : List Action → List ℕ
