@@ -1,10 +1,10 @@
 -- A file that could not be read to its end stops every judgement of it.
-use Rattle.std.proofs.Common.{◌≡◌, ℕ, Bool, List, Option, IfSome, Result, Ok, Err, refl, subst}
+use Rattle.std.proofs.Common.{◌≡◌, ℕ, Bool, List, Option, Result, Ok, Err, refl, subst}
 use Rattle.std.proofs.lemmas.Option.{IfSome_then}
 use Rattle.std.specs.Prelude.{Vec}
 use Rattle.std.specs.declared.alloc.Global.{Global}
 use Rattle.byte_edge.specs.Devices.{IsCallOn}
-use Rattle.command_outputs.specs.Outcomes.{Outcome, file_lines}
+use Rattle.command_outputs.specs.Outcomes.{file_lines}
 use Rattle.command_outputs.specs.Steps.{EndsStage, JudgesFile, PassesStage, every_file, is_read_failed}
 use Rattle.command_outputs.specs.Steps.{texts_read}
 use Rattle.command_outputs.specs.declared.complaint.Complaint.{Complaint}

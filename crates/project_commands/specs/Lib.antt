@@ -2,3 +2,4 @@
 pub mod InputRefusals
 pub mod Checks
 pub mod Replays
+pub mod Tables

@@ -1,7 +1,7 @@
 -- What a run leaves whose words are no command.
-use Rattle.std.proofs.Common.{◌≡◌, ◌⊎◌, inl, inr, ◌<◌, ℕ, List, [], Option, refl, sym, subst, arith}
+use Rattle.std.proofs.Common.{inl, inr, ℕ, List, [], Option, refl, sym, subst, arith}
 use Rattle.byte_edge.proofs.PublicLaws.{written_bytes-nothing, written_bytes-prefix}
-use Rattle.command_outputs.specs.Outcomes.{Outcome, usage_outcome}
+use Rattle.command_outputs.specs.Outcomes.{usage_outcome}
 use Rattle.command_outputs.specs.Runs.{Leaves, Says, Counts}
 use Rattle.command_outputs.specs.Steps.{Tells}
 use Rattle.command_outputs.specs.declared.status.Status.{Status}

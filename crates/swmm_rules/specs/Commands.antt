@@ -1,46 +1,66 @@
 -- The commands of the tool, and what each comes to, over what is held under the names of files.
-use Rattle.std.specs.Prelude.{ℕ, if◌then◌else◌, List, [], ◌∷◌, codes, Option, None, Some}
+use Rattle.std.specs.Prelude.{ℕ, ◌&&◌, nat_le, if◌then◌else◌, List, [], ◌∷◌, codes}
+use Rattle.std.specs.Prelude.{Option, None, Some, option_map, option_and_then}
 use Rattle.std.specs.Str.{bytes_eq}
 use Rattle.command_outputs.specs.Outcomes.{Outcome, usage_outcome}
 use Rattle.command_outputs.specs.declared.role.Role.{Role}
+use Rattle.generated_replay.specs.GeneratedText.{gen_roles, gen_outcome}
+use Rattle.num_text.specs.Counts.{count_of}
 use Rattle.project_commands.specs.Checks.{check_roles, check_outcome}
 use Rattle.project_commands.specs.Replays.{replay_roles, replay_outcome}
+use Rattle.project_commands.specs.Tables.{tables_roles, tables_outcome}
 
--- a command with the names of its files
+-- a command with the names of its files, or with the number of pumps of a generated model
 pub data CommandLine : Type 0 where
   Check : List ℕ → CommandLine
+  Tables : List ℕ → CommandLine
   Replay : List ℕ → List ℕ → CommandLine
+  Generate : ℕ → CommandLine
 
--- the command of a word and one name
-abbrev pub one_file : List ℕ → List ℕ → Option CommandLine
-one_file word input = if bytes_eq word (codes "check") then Some (Check input) else None
+-- the number of pumps of a generated model: a count from 1 to 1,000
+abbrev pub in_bounds : ℕ → Option ℕ
+in_bounds pumps = if nat_le 1 pumps && nat_le pumps 1000 then Some pumps else None
 
--- the command of a word and two names
-abbrev pub two_files : List ℕ → List ℕ → List ℕ → Option CommandLine
-two_files word first second =
+abbrev pub pumps_of : List ℕ → Option ℕ
+pumps_of text = option_and_then in_bounds (count_of text)
+
+-- the command of a word and one more
+abbrev pub with_one : List ℕ → List ℕ → Option CommandLine
+with_one word next =
+    if bytes_eq word (codes "check") then Some (Check next)
+    else (if bytes_eq word (codes "tables") then Some (Tables next)
+    else (if bytes_eq word (codes "gen") then option_map Generate (pumps_of next) else None))
+
+-- the command of a word and the names of two files
+abbrev pub with_two : List ℕ → List ℕ → List ℕ → Option CommandLine
+with_two word first second =
     if bytes_eq word (codes "replay") then Some (Replay first second) else None
 
 -- the command that these words are
 abbrev pub command_of : List (List ℕ) → Option CommandLine
 command_of [] = None
 command_of (word ∷ []) = None
-command_of (word ∷ input ∷ []) = one_file word input
-command_of (word ∷ first ∷ second ∷ []) = two_files word first second
+command_of (word ∷ input ∷ []) = with_one word input
+command_of (word ∷ first ∷ second ∷ []) = with_two word first second
 command_of (word ∷ first ∷ second ∷ more ∷ rest) = None
 
 -- what is said of words that are no command
 abbrev pub usage_text : List ℕ
-usage_text = codes "usage: check IN\n       replay IN TRACE\n"
+usage_text = codes "usage: check IN\n       tables IN\n       replay IN TRACE\n       gen N\n"
 
 -- what the files of a command are, in the order of their slots
 abbrev pub roles_of : CommandLine → List Role
 roles_of (Check input) = check_roles
+roles_of (Tables input) = tables_roles
 roles_of (Replay input trace) = replay_roles
+roles_of (Generate pumps) = gen_roles
 
 -- what a command comes to
 abbrev pub outcome : (List ℕ → Option (List ℕ)) → CommandLine → Option Outcome
 outcome held (Check input) = check_outcome held input
+outcome held (Tables input) = tables_outcome held input
 outcome held (Replay input trace) = replay_outcome held input trace
+outcome held (Generate pumps) = gen_outcome pumps
 
 -- the same of the words of a run
 abbrev pub roles_of_words : Option CommandLine → List Role

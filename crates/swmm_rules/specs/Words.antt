@@ -1,9 +1,18 @@
 -- A command of the program as a command line.
-use Rattle.std.specs.Prelude.{ℕ, List}
-use Rattle.swmm_rules.specs.Commands.{CommandLine, Check, Replay}
+use Rattle.std.specs.Prelude.{◌≤◌, ⊤}
+use Rattle.swmm_rules.specs.Commands.{CommandLine, Check, Tables, Replay, Generate}
 use Rattle.swmm_rules.specs.declared.command.Command.{Command}
 use Rattle.swmm_rules.specs.declared.command.Command.TheVariants as command
 
 abbrev pub line_of : Command → CommandLine
 line_of (command.Check input) = Check input.now
+line_of (command.Tables input) = Tables input.now
 line_of (command.Replay input trace) = Replay input.now trace.now
+line_of (command.Generate pumps) = Generate pumps
+
+-- a generated model has 1 to 1,000 pumps
+abbrev pub IsInBounds : Command → Type 0
+IsInBounds (command.Check input) = ⊤
+IsInBounds (command.Tables input) = ⊤
+IsInBounds (command.Replay input trace) = ⊤
+IsInBounds (command.Generate pumps) = (1 ≤ pumps) × (pumps ≤ 1000)

@@ -1,44 +1,95 @@
 //! The words of the commands.
-ghost use Rattle.std.specs.Prelude.{◌≡◌, MatchOption, None, Some, map, string_bytes};
-ghost use Rattle.swmm_rules.specs.Commands.{command_of, one_file, two_files, usage_text};
-ghost use Rattle.swmm_rules.specs.Words.{line_of};
+ghost use Rattle.std.specs.Prelude.{◌≡◌, ◌≤◌, IfSome, MatchOption};
+ghost use Rattle.std.specs.Prelude.{None, Some, map, option_map, string_bytes};
+ghost use Rattle.swmm_rules.specs.Commands.{Generate, command_of, in_bounds, pumps_of};
+ghost use Rattle.swmm_rules.specs.Commands.{with_one, with_two, usage_text};
+ghost use Rattle.swmm_rules.specs.Words.{line_of, IsInBounds};
 
-/// A command and the names of its files.
+use num_text::counts::read_count;
+
+/// A command with the names of its files, or with the number of pumps of a generated model.
 #[derive(Clone, Copy)]
 pub enum Command<'a> {
     /// `check IN`
     Check { input: &'a str },
+    /// `tables IN`
+    Tables { input: &'a str },
     /// `replay IN TRACE`
     Replay { input: &'a str, trace: &'a str },
+    /// `gen N`
+    Generate { pumps: u32 },
 }
 
 /// The command that these words are; None where they are no command.
 pub fn command_of(words: &[String]) -> Option<Command<'_>>
     ensures value { MatchOption result (command_of (map string_bytes words.now) ≡ None)
         (λ command. command_of (map string_bytes words.now) ≡ Some (line_of command)) }
+    ensures bounds { IfSome result IsInBounds }
 {
     match words {
-        [word, input] => one_file(word.as_str(), input.as_str()),
-        [word, first, second] => two_files(word.as_str(), first.as_str(), second.as_str()),
+        [word, next] => with_one(word.as_str(), next.as_str()),
+        [word, first, second] => with_two(word.as_str(), first.as_str(), second.as_str()),
         _ => None,
     }
 }
 
-/// A command on one file.
-fn one_file<'a>(word: &str, input: &'a str) -> Option<Command<'a>>
-    ensures value { MatchOption result (one_file word.now input.now ≡ None)
-        (λ command. one_file word.now input.now ≡ Some (line_of command)) }
+/// A command of a word and one more.
+fn with_one<'a>(word: &str, next: &'a str) -> Option<Command<'a>>
+    ensures value { MatchOption result (with_one word.now next.now ≡ None)
+        (λ command. with_one word.now next.now ≡ Some (line_of command)) }
+    ensures bounds { IfSome result IsInBounds }
 {
     if word == "check" {
-        return Some(Command::Check { input });
+        return Some(Command::Check { input: next });
+    }
+    if word == "tables" {
+        return Some(Command::Tables { input: next });
+    }
+    if word == "gen" {
+        return generation(next.as_bytes());
     }
     None
 }
 
+/// The command `gen` with its number of pumps.
+fn generation<'a>(text: &[u8]) -> Option<Command<'a>>
+    ensures value { MatchOption result (pumps_of text.now ≡ None)
+        (λ command. option_map Generate (pumps_of text.now) ≡ Some (line_of command)) }
+    ensures bounds { IfSome result IsInBounds }
+{
+    let pumps = pumps_of(text)?;
+    Some(Command::Generate { pumps })
+}
+
+/// The number of pumps of a generated model: None exactly where the text is no count from 1 to
+/// 1,000.
+fn pumps_of(text: &[u8]) -> Option<u32>
+    ensures value { result ≡ pumps_of text.now }
+    ensures bounds { IfSome result (λ pumps. (1 ≤ pumps) × (pumps ≤ 1000)) }
+{
+    let count = read_count(text)?;
+    in_bounds(count)
+}
+
+/// The same of a count.
+fn in_bounds(count: u64) -> Option<u32>
+    ensures value { result ≡ in_bounds count }
+    ensures bounds { IfSome result (λ pumps. (1 ≤ pumps) × (pumps ≤ 1000)) }
+{
+    if count < 1 {
+        return None;
+    }
+    if 1_000 < count {
+        return None;
+    }
+    Some(count as u32)
+}
+
 /// A command on two files.
-fn two_files<'a>(word: &str, first: &'a str, second: &'a str) -> Option<Command<'a>>
-    ensures value { MatchOption result (two_files word.now first.now second.now ≡ None)
-        (λ command. two_files word.now first.now second.now ≡ Some (line_of command)) }
+fn with_two<'a>(word: &str, first: &'a str, second: &'a str) -> Option<Command<'a>>
+    ensures value { MatchOption result (with_two word.now first.now second.now ≡ None)
+        (λ command. with_two word.now first.now second.now ≡ Some (line_of command)) }
+    ensures bounds { IfSome result IsInBounds }
 {
     if word == "replay" {
         return Some(Command::Replay {
@@ -53,5 +104,5 @@ fn two_files<'a>(word: &str, first: &'a str, second: &'a str) -> Option<Command<
 pub fn usage_text() -> &'static [u8]
     ensures value { result.now ≡ usage_text }
 {
-    b"usage: check IN\n       replay IN TRACE\n"
+    b"usage: check IN\n       tables IN\n       replay IN TRACE\n       gen N\n"
 }

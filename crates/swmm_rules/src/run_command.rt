@@ -5,12 +5,13 @@ ghost use Rattle.command_outputs.specs.Commands.{Performs};
 ghost use Rattle.command_outputs.specs.Runs.{Leaves, UnchangedFrom, WritesWhenOpen, Says, Counts};
 ghost use Rattle.swmm_rules.specs.Commands.{command_of, roles_of, outcome, usage_text};
 ghost use Rattle.swmm_rules.specs.Commands.{roles_of_words, outcome_of_words};
-ghost use Rattle.swmm_rules.specs.Words.{line_of};
+ghost use Rattle.swmm_rules.specs.Words.{line_of, IsInBounds};
 
 use crate::command::{Command, command_of, usage_text};
 use byte_edge::{Files, Sink};
 use command_outputs::{Complaint, Completion, Status, conclude, tell};
-use project_commands::{check, replay};
+use generated_replay::generate;
+use project_commands::{check, replay, tables};
 use std::alloc::Global;
 
 /// Runs the tool: the command that the words are, over the files of these names; words that are no
@@ -71,6 +72,7 @@ fn perform<F: Files, O: Sink>(
     files: &mut F,
     out: &mut O,
 ) -> Result<Completion, Complaint>
+    requires bounds { IsInBounds command }
     ensures performs { Performs (roles_of (line_of command.entry))
         (outcome (F.held files.old) (line_of command.entry)) (F.is_open files.new)
         (F.left files.old) (F.left files.new) (F.faults files.old) (F.faults files.new)
@@ -78,6 +80,8 @@ fn perform<F: Files, O: Sink>(
 {
     match command {
         Command::Check { input } => check(alloc, input, files, out),
+        Command::Tables { input } => tables(alloc, input, files, out),
         Command::Replay { input, trace } => replay(alloc, input, trace, files, out),
+        Command::Generate { pumps } => generate(alloc, pumps, files, out),
     }
 }

@@ -76,6 +76,9 @@ fn files(alloc: Global) -> Result<MemoryFiles, NoMemory> {
     Ok(MemoryFiles::new(held, 22, Vec::new(alloc)))
 }
 
+/// What is said of words that are no command.
+const USAGE: &[u8] = b"usage: check IN\n       tables IN\n       replay IN TRACE\n       gen N\n";
+
 /// What the replay of the rule over the rows prints.
 const REPLAYED: &[u8] = b"moment,P1\n2001-06-15T00:00:00,0\n2001-06-15T00:05:00,1\n\
                           2001-06-15T00:10:00,0\n";
@@ -126,6 +129,6 @@ fn check_counts_and_other_words_are_the_usage(rt: HostRuntime) -> Result<(), Fai
     let other = words(alloc, &["check"])?;
     let status = run(alloc, &other, &mut files(alloc)?, &mut out, &mut err);
     assert!(rt; status == Status::Usage);
-    assert!(rt; err.written() == b"usage: check IN\n       replay IN TRACE\n".as_slice());
+    assert!(rt; err.written() == USAGE);
     Ok(())
 }

@@ -96,6 +96,13 @@ impl<'a, R: Reads> Replay<'a, R> {
         self.progress.last
     }
 
+    /// What reads the rules.
+    pub fn readings(&self) -> &R
+        ensures readings { result.now ≡ self.now.readings }
+    {
+        &self.readings
+    }
+
     /// The rules.
     pub fn rules(&self) -> &'a Rules
         ensures rules { result.now ≡ self.now.rules.now }

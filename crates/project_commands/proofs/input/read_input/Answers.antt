@@ -1,7 +1,5 @@
-use Rattle.std.proofs.Common.{rules, refl, sym, subst, Bool, false}
+use Rattle.std.proofs.Common.{rules, sym, subst, Bool}
 use Rattle.byte_edge.specs.Devices.{IsCallOn}
-use Rattle.command_outputs.specs.Outcomes.{input_file}
-use Rattle.project_commands.specs.InputRefusals.{project_judged}
 use Rattle.project_commands.proofs.InputJudged.{read_judges, judged_ends, judged_failure}
 use Rattle.project_commands.proofs.input.read_input.Goals as goal
 

@@ -5,8 +5,8 @@ use Rattle.rule_meaning.specs.Reading.{Choice, settling}
 use Rattle.rule_types.specs.Tables.{TableSet}
 use Rattle.project_commands.proofs.replay_command.printer_of.Goals as goal
 
-pub new-requires-2-clause-can_replay : goal.new-requires-2-clause-can_replay
-new-requires-2-clause-can_replay c =
+pub new-requires-clause-can_replay : goal.new-requires-clause-can_replay
+new-requires-clause-can_replay c =
     let rules = c.args.project.now.rules in
     let settled : CanReplay (settling rules) rules c.args.project.now.tables = record {
       formed = c.requires.well_formed;

@@ -1,11 +1,9 @@
-use Rattle.std.proofs.Common.{◌≡◌, inr, refl}
+use Rattle.std.proofs.Common.{inr, refl}
 use Rattle.std.proofs.Math.Path.{fun_ext}
 use Rattle.std.proofs.lemmas.Result.{err_from_is_err_and}
 use Rattle.command_outputs.specs.Outcomes.{input_file}
 use Rattle.command_outputs.proofs.PublicLaws.{stages-none, stages-next, stages-stopped, stages-through}
-use Rattle.command_outputs.proofs.PublicLaws.{command_ends-out_of_memory}
 use Rattle.streamed_lines.proofs.PublicLaws.{streams-performs}
-use Rattle.streamed_lines.specs.Printers.{StreamsTrace}
 use Rattle.streamed_lines.specs.Streams.{stream}
 use Rattle.project_commands.specs.InputRefusals.{project_judged, project_read}
 use Rattle.project_commands.specs.Replays.{replay_printed, replay_roles}

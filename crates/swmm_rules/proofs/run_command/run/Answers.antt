@@ -1,6 +1,3 @@
-use Rattle.std.proofs.Common.{rules, [], ap}
-use Rattle.command_outputs.specs.Steps.{Tells}
-use Rattle.command_outputs.specs.declared.status.Status.TheVariants.{Usage}
 use Rattle.swmm_rules.specs.Commands.{outcome, roles_of, usage_text}
 use Rattle.swmm_rules.specs.Words.{line_of}
 use Rattle.swmm_rules.proofs.Usages.{usage_leaves, usage_says, usage_counts}

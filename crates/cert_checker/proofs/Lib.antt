@@ -1,0 +1,4 @@
+pub mod Accepted
+pub mod Entries
+pub mod MadeMoments
+pub mod Walking

@@ -1,0 +1,3 @@
+-- What the command `gen` comes to.
+pub mod GeneratedText
+pub mod internal

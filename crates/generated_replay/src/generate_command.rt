@@ -1,0 +1,86 @@
+//! The command `gen`.
+ghost use Rattle.std.specs.Prelude.{◌≡◌, ◌≤◌};
+ghost use Rattle.command_outputs.specs.Commands.{Performs};
+ghost use Rattle.rule_types.specs.Tables.{HoldsTables};
+ghost use Rattle.rule_types.specs.WellFormed.{WellFormed};
+ghost use Rattle.generated_replay.specs.GeneratedText.{gen_outcome, gen_roles, gen_text};
+ghost use Rattle.generated_replay.specs.GeneratedText.{text_of as text_of_files, tally_judged};
+ghost use Rattle.trace_tally.specs.Giving.{Gives, tally_seen};
+
+use crate::input::project_of;
+use crate::text::tally_text;
+use byte_edge::{Files, Sink};
+use command_outputs::{Complaint, Completion, Role, TRACE_FILE, write_text};
+use model_generator::gen_files;
+use plain_replay::PlainReads;
+use rule_parser::Project;
+use std::alloc::Global;
+use trace_tally::{Replayed, replay_trace};
+
+/// `gen N`, for an N from 1 to 1,000: makes the input file and the trace of the model of `n` pumps
+/// in memory, replays the trace, and writes how many pumps, rules, rows and switches there are, and
+/// the setting of each pump after the last row. A switch is a pair of a row and a pump whose
+/// setting changed there. No file is opened.
+pub fn generate<F: Files, O: Sink>(
+    alloc: Global,
+    n: u32,
+    _files: &F,
+    out: &mut O,
+) -> Result<Completion, Complaint>
+    requires least { 1 ≤ n }
+    requires most { n ≤ 1000 }
+    ensures performs { Performs gen_roles (gen_outcome n) (F.is_open _files.now)
+        (F.left _files.now) (F.left _files.now) (F.faults _files.now) (F.faults _files.now)
+        (O.written out.old) (O.written out.new) (O.faults out.old) (O.faults out.new) result }
+{
+    match generated_text(alloc, n) {
+        Ok(text) => write_text(out, &text, Completion::Done),
+        Err(complaint) => Err(complaint),
+    }
+}
+
+/// The text of the command.
+fn generated_text(alloc: Global, n: u32) -> Result<Vec<u8>, Complaint>
+    requires least { 1 ≤ n }
+    requires most { n ≤ 1000 }
+    ensures gives { Gives (gen_text n) (λ text. text.items) result }
+{
+    let Ok((input, trace)) = gen_files(alloc, n) else {
+        return Err(Complaint::OutOfMemory);
+    };
+    text_of(alloc, n, &input, &trace)
+}
+
+/// The text over an input file and a trace with these bytes.
+fn text_of(alloc: Global, n: u32, input: &[u8], trace: &[u8]) -> Result<Vec<u8>, Complaint>
+    requires most { n ≤ 1000 }
+    ensures gives { Gives (text_of_files n input.now trace.now) (λ text. text.items) result }
+{
+    let project = match project_of(alloc, input) {
+        Ok(project) => project,
+        Err(complaint) => return Err(complaint),
+    };
+    let replayed = match replay_project(alloc, &project, trace) {
+        Ok(replayed) => replayed,
+        Err(complaint) => return Err(complaint),
+    };
+    match tally_text(alloc, n, &project, &replayed) {
+        Ok(text) => Ok(text),
+        Err(_) => Err(Complaint::OutOfMemory),
+    }
+}
+
+/// Replays the rules of a project over a trace with these bytes.
+fn replay_project(alloc: Global, project: &Project, trace: &[u8]) -> Result<Replayed, Complaint>
+    requires well_formed { WellFormed project.now.rules }
+    requires tables { HoldsTables project.now.tables project.now.rules.rules }
+    ensures gives { Gives (tally_judged project.now trace.now) tally_seen result }
+{
+    if trace.len() as u64 > TRACE_FILE.budget {
+        return Err(Complaint::TooLong(Role::Trace));
+    }
+    let Ok(readings) = PlainReads::new(alloc, &project.rules, &project.tables) else {
+        return Err(Complaint::OutOfMemory);
+    };
+    replay_trace(alloc, &project.rules, &project.objects, readings, trace)
+}

@@ -1,0 +1,2 @@
+-- Lemmas of this crate, over plain values.
+pub mod Repeated

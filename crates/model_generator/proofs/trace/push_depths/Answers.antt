@@ -1,0 +1,14 @@
+use Rattle.std.proofs.Common.{rules, ◌≡◌, ◌+◌, ◌<◌, ◌++◌, arith}
+use Rattle.std.specs.List.{flat_map}
+use Rattle.model_generator.specs.InputFile.{up_to}
+use Rattle.model_generator.specs.Trace.{depth_text}
+use Rattle.model_generator.proofs.Repeated.{one_more}
+use Rattle.model_generator.proofs.trace.push_depths.Goals as goal
+
+pub loop-number-preserved : goal.loop-number-preserved
+loop-number-preserved c =
+    let within : c.loop-number.number < c.args.n + 1 = search rules in
+    let added : c.push_depth.new.text.items ≡ c.loop-number.text.items ++ depth_text c.args.row c.loop-number.number = search rules in
+    one_more (depth_text c.args.row) c.loop-number.text.items c.push_depth.new.text.items
+    (c.args.text.now.items ++ flat_map (depth_text c.args.row) (up_to c.args.n)) c.loop-number.number (c.args.n + 1)
+    within added c.loop-number.invariant

@@ -1,0 +1,3 @@
+-- The input file and the trace of the generated model.
+pub mod InputFile
+pub mod Trace

@@ -1,0 +1,15 @@
+pub mod PublicLaws
+pub mod ExampleWords
+pub mod ClauseTruth
+pub mod CountedRules
+pub mod Entering
+pub mod Filling
+pub mod FirstRows
+pub mod FitRows
+pub mod GroupWalk
+pub mod NormalClauses
+pub mod PartTruth
+pub mod RankedPlaces
+pub mod Readings
+pub mod SettledRows
+pub mod SortedPlaces

@@ -1,0 +1,3 @@
+pub mod Filling
+pub mod Grouping
+pub mod PartPlaces

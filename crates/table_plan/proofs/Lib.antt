@@ -1,0 +1,11 @@
+pub mod PublicLaws
+pub mod CutLists
+pub mod DraftLists
+pub mod ExampleWords
+pub mod KeptRows
+pub mod NewPlan
+pub mod PieceOrder
+pub mod PieceSteps
+pub mod PlaceLists
+pub mod RowSteps
+pub mod ToldRows

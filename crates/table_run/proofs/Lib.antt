@@ -1,0 +1,13 @@
+pub mod FirstSteps
+pub mod FittingTables
+pub mod LeftConditions
+pub mod LeftSides
+pub mod PidPairs
+pub mod PidSteps
+pub mod PieceValues
+pub mod PlannedChoices
+pub mod PlannedSteps
+pub mod PublicLaws
+pub mod SettledChoices
+pub mod SourceSteps
+pub mod Zips
