@@ -13,5 +13,5 @@ pub use check_command::check;
 pub use input::read_input;
 pub use laws::{cause_names, whole_files};
 pub use refusal::refusal_line;
-pub use replay_command::replay;
+pub use replay_command::{printer_of, replay};
 pub use tables_command::tables;

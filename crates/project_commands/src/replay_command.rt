@@ -40,8 +40,9 @@ pub fn replay<F: Files, O: Sink>(
     stream_trace(alloc, &mut printer, trace, files, out)
 }
 
-/// The printer of a replay before the first line of the trace.
-fn printer_of<'a>(
+/// The printer of a replay by the decision tables of a project's rules, before the first line of
+/// the trace. NoMemory where memory is wanting.
+pub fn printer_of<'a>(
     alloc: Global,
     project: &'a Project,
 ) -> Result<ReplayPrinter<'a, TableReads<'a>>, NoMemory>

@@ -56,6 +56,13 @@ impl<'a, R: Reads> ReplayPrinter<'a, R> {
             inputs,
         })
     }
+
+    /// What reads the rules.
+    pub fn readings(&self) -> &R
+        ensures readings { result.now ≡ self.now.replay.readings }
+    {
+        self.replay.readings()
+    }
 }
 
 impl<'a, R: Reads> LinePrinter for ReplayPrinter<'a, R> {
