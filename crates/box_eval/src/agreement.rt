@@ -15,16 +15,18 @@ use exact_fraction::relation::Relation;
 use list_types::Items;
 use rule_types::{Branch, Condition, NameDef, Rules, Side, What};
 
-/// A branch of a rule.
-#[derive(Clone, Copy)]
-pub(crate) struct BranchAt {
-    pub(crate) number: usize,
-    pub(crate) branch: Branch,
+/// A branch of the rule of a number, from 0.
+#[derive(Clone, Copy, Debug)]
+pub struct BranchAt {
+    pub number: usize,
+    pub branch: Branch,
 }
 
-/// Whether two branches have candidates on a link that disagree.
+/// Whether two branches have candidates on a link that disagree: each has an action there, and their
+/// first ones are not numbers of one worth, the same curve with the same controller, or the same
+/// series. It takes no memory, and time by the actions of the two branches.
 #[tactic(auto, unfolding(verdict_meaning::specs::Events::disagree))]
-pub(crate) fn disagree(rules: &Rules, at: &BranchAt, other: &BranchAt, link: u32) -> bool
+pub fn disagree(rules: &Rules, at: &BranchAt, other: &BranchAt, link: u32) -> bool
     requires formed { WellFormed rules.now }
     ensures value { result
         ≡ disagree rules.now at.now.number at.now.branch other.now.number other.now.branch link }

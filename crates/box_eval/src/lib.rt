@@ -16,5 +16,7 @@ mod links;
 mod ranks;
 mod truths;
 
+pub use agreement::{BranchAt, disagree};
 pub use asked::is_asked;
 pub use boxes::{premise_truth, shown, shown_by};
+pub use ranks::are_level;

@@ -46,9 +46,11 @@ fn priority_of(rules: &Rules, number: usize) -> Option<Frac>
     }
 }
 
-/// Whether two rules have the same rank.
+/// Whether the rules of two numbers, from 0, have the same rank: neither has the greater priority,
+/// no priority being below every number (SWMM 5.2 manual, [CONTROLS], PRIORITY). It takes no memory,
+/// and the same time for all rules.
 #[tactic(auto, unfolding(verdict_meaning::specs::Events::are_level))]
-pub(crate) fn are_level(rules: &Rules, first: usize, second: usize) -> bool
+pub fn are_level(rules: &Rules, first: usize, second: usize) -> bool
     ensures value { result ≡ are_level rules.now.rules first second }
 {
     let priority = priority_of(rules, first);

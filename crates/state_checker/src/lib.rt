@@ -1,0 +1,16 @@
+//! Whether a state lies in ranges and has the event that a question asks for.
+#![tactic(auto)]
+
+mod asked;
+mod checking;
+mod clock;
+mod events;
+mod limits;
+mod links;
+mod lists;
+mod ranges;
+mod settled;
+mod values;
+mod worth;
+
+pub use checking::check_state;
