@@ -1,5 +1,4 @@
-//! Tests of whole replays: which table rows are tried, and that both ways to read the rules print
-//! the same.
+//! Tests of whole replays: how many table rows are tried, and that files are read in blocks.
 #![tactic(auto)]
 
 #[cfg(test)]

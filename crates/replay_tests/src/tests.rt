@@ -1,4 +1,4 @@
-//! Replays of generated models, by decision tables and by all rules.
+//! Replays of generated models by decision tables.
 ghost use Rattle.rule_types.specs.Tables.{HoldsTables};
 ghost use Rattle.rule_types.specs.WellFormed.{WellFormed};
 
