@@ -8,8 +8,6 @@ pub mod laws;
 mod parts;
 mod read;
 mod statement;
-#[cfg(test)]
-mod tests;
 
 pub use clause::{Clause, Stage};
 pub use fault::{Fault, both, refused_where};

@@ -14,8 +14,6 @@ mod pair;
 mod reading;
 mod series;
 mod tables;
-#[cfg(test)]
-mod tests;
 mod used;
 mod values;
 

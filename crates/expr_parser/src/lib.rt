@@ -16,8 +16,6 @@ mod name_index;
 mod numbers;
 mod read;
 mod source;
-#[cfg(test)]
-mod tests;
 mod token;
 
 pub use fault::{ExprCause, ExprFault};

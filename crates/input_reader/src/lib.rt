@@ -4,6 +4,3 @@
 mod input_lines;
 
 pub use input_lines::read_sections;
-
-#[cfg(test)]
-mod tests;

@@ -8,8 +8,6 @@ mod merged;
 mod network;
 mod object_line;
 mod options;
-#[cfg(test)]
-mod tests;
 mod value;
 
 pub use limit::room_for;

@@ -8,8 +8,6 @@ pub mod laws;
 mod name_table;
 mod place;
 mod space_names;
-#[cfg(test)]
-mod tests;
 mod unresolved;
 
 pub use found::Found;

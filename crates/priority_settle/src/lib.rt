@@ -4,7 +4,5 @@
 
 mod pairs;
 mod table;
-#[cfg(test)]
-mod tests;
 
 pub use table::{settle, settle_into};

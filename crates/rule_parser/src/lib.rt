@@ -15,8 +15,6 @@ mod noted;
 mod project;
 mod rules;
 mod statement;
-#[cfg(test)]
-mod tests;
 mod text;
 
 pub use project::{Project, read_project};
