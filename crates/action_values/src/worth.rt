@@ -48,6 +48,9 @@ pub(crate) fn worth(
 fn capped(rate: &Frac, value: Frac) -> Frac
     ensures value { Ok result ≡ capped rate.now (Ok value) }
 {
+    if rate.is_zero() {
+        return value;
+    }
     if Frac::zero().is_less(rate) {
         return Frac::one().min(value);
     }

@@ -7,3 +7,4 @@ pub mod PlanSteps
 pub mod PublicLaws
 pub mod Zips
 pub mod RowSteps
+pub mod StepFacts

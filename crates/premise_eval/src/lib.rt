@@ -13,6 +13,7 @@ mod names;
 mod place;
 mod plan;
 mod premises;
+mod step_hours;
 mod values;
 
 pub use column::{Column, Pair};

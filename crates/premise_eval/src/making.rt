@@ -15,7 +15,6 @@ use crate::marks::mark_some;
 use crate::names::read_names;
 use crate::place::Place;
 use crate::values::Values;
-use clock_values::hours_of_step;
 use exact_fraction::frac::Frac;
 use rule_types::{Rules, State, Stop};
 
@@ -23,7 +22,7 @@ use rule_types::{Rules, State, Stop};
 /// worked out in the order of the file: the answer is a stop exactly where one of them overflows or
 /// divides by zero, and then it is that of the first of them, and the values are as before. It
 /// takes no memory, and time by the sizes of the used expressions and the number of the sides that
-/// conditions have.
+/// conditions have; a step that is the same as at the last call is not divided again.
 pub fn derive(rules: &Rules, state: &State, values: &mut Values) -> Result<(), Stop>
     requires well_formed { WellFormed rules.now }
     requires fits { FitsRules rules.now state.now }
@@ -32,8 +31,9 @@ pub fn derive(rules: &Rules, state: &State, values: &mut Values) -> Result<(), S
     ensures made { OnOk result (IsMade rules.now rules.now.rules state.now values.new) }
     ensures kept { OnErr result (values.new ≡ values.old) }
     ensures plan { IsPlan rules.now values.new }
+    ensures same_columns { values.new.columns ≡ values.old.columns }
 {
-    let hours = hours_of_step(&state.step);
+    let hours = values.known.hours_of(&state.step);
     if let Err(stop) = read_state(
         rules,
         &values.used,
@@ -66,8 +66,9 @@ pub fn derive_for(
         (IsMade rules.now (rules_at rules.now.rules only.now) state.now values.new) }
     ensures kept { OnErr result (values.new ≡ values.old) }
     ensures plan { IsPlan rules.now values.new }
+    ensures same_columns { values.new.columns ≡ values.old.columns }
 {
-    let hours = hours_of_step(&state.step);
+    let hours = values.known.hours_of(&state.step);
     if let Err(stop) = read_some(
         rules,
         only,

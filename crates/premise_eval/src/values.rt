@@ -7,6 +7,7 @@ use crate::column::{Column, Pair};
 use crate::marks::mark_all;
 use crate::place::Place;
 use crate::plan::{all_pairs, name_places, slots};
+use crate::step_hours::StepHours;
 use byte_edge::NoMemory;
 use clock_values::hours_of_step;
 use exact_fraction::frac::Frac;
@@ -25,6 +26,8 @@ pub struct Values {
     pub(crate) pairs: Vec<Items<Pair>>,
     pub(crate) places: Vec<Place>,
     pub(crate) used: Vec<bool>,
+    /// The last step that was asked for, in hours.
+    pub(crate) known: StepHours,
     /// Room for the values of names while they are worked out.
     pub(crate) names: Vec<Option<Frac>>,
     /// Room for the marks of names.
@@ -75,6 +78,7 @@ impl Values {
             pairs,
             places,
             used,
+            known: StepHours::of_step(&rules.routing_step),
             names,
             asked,
         })

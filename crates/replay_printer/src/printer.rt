@@ -12,7 +12,7 @@ use object_index::ObjectIndex;
 use rule_types::Rules;
 use std::alloc::Global;
 use streamed_lines::{LinePrinter, PrintEnd};
-use trace_csv::{Header, TraceCause};
+use trace_csv::{Header, TraceCause, WrittenMoment};
 use trace_replay::{Reads, Replay};
 
 /// Prints the replay of rules over the lines of a trace, by some reading: a header with the names
@@ -25,6 +25,8 @@ pub struct ReplayPrinter<'a, R: Reads> {
     objects: &'a ObjectIndex,
     /// The header of the trace, once it was read.
     header: Option<Header>,
+    /// The moment of the last row with its text, and at the start some moment.
+    written: WrittenMoment,
     /// Room for the inputs of a row.
     inputs: Vec<Option<Frac>>,
 }
@@ -53,6 +55,7 @@ impl<'a, R: Reads> ReplayPrinter<'a, R> {
             replay,
             objects,
             header: None,
+            written: WrittenMoment::epoch(),
             inputs,
         })
     }
@@ -89,7 +92,9 @@ impl<'a, R: Reads> LinePrinter for ReplayPrinter<'a, R> {
     ) -> Result<(), PrintEnd> {
         if let Some(header) = &self.header {
             let replay = &mut self.replay;
-            return take_row(alloc, replay, header, &mut self.inputs, number, line, text);
+            let written = &mut self.written;
+            let inputs = &mut self.inputs;
+            return take_row(alloc, replay, header, written, inputs, number, line, text);
         }
         match take_header(alloc, self.replay.rules(), self.objects, number, line, text) {
             Ok(header) => {

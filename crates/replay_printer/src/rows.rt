@@ -11,11 +11,11 @@ use crate::ends::{fault_end, row_end};
 use byte_edge::NoMemory;
 use exact_fraction::frac::Frac;
 use object_index::ObjectIndex;
-use replay_text::{write_header_line, write_row_line};
+use replay_text::{write_header_line, write_row_line_at};
 use rule_types::Rules;
 use std::alloc::Global;
 use streamed_lines::PrintEnd;
-use trace_csv::{Header, TraceEnd};
+use trace_csv::{Header, TraceEnd, WrittenMoment};
 use trace_replay::{Reads, Replay};
 
 /// Takes a line before the header, and prints the header if it is that; None where the line has no
@@ -43,12 +43,13 @@ pub(crate) fn take_header(
     }
 }
 
-/// Takes a line behind the header: replays its row and prints the settings after it. `inputs` has
-/// room for the inputs of a row.
+/// Takes a line behind the header: replays its row and prints the settings after it. `written` is a
+/// moment with its text, best that of the row before, and `inputs` has room for the inputs of a row.
 pub(crate) fn take_row<R: Reads>(
     alloc: Global,
     replay: &mut Replay<'_, R>,
     header: &Header,
+    written: &mut WrittenMoment,
     inputs: &mut [Option<Frac>],
     number: u64,
     line: &[u8],
@@ -76,12 +77,12 @@ pub(crate) fn take_row<R: Reads>(
 {
     let rules = replay.rules();
     let last = replay.last();
-    match header.read_row(alloc, line, &last, &rules.start, inputs) {
+    match header.read_next_row(alloc, line, &last, &rules.start, written, inputs) {
         Ok(Some(moment)) => {
             // Its seconds lie in the years 1 to 9999, as those of a row have to.
             let _ = moment.seconds();
             match replay.row(moment, inputs) {
-                Ok(()) => match write_row_line(text, moment, replay.settings()) {
+                Ok(()) => match write_row_line_at(text, written, replay.settings()) {
                     Ok(()) => Ok(()),
                     Err(NoMemory) => Err(PrintEnd::NoMemory),
                 },

@@ -1,3 +1,4 @@
 pub mod Going
 pub mod June
+pub mod OneDigit
 pub mod PublicLaws

@@ -5,8 +5,6 @@ pub mod examples;
 pub mod laws;
 mod lines;
 mod stops;
-#[cfg(test)]
-mod tests;
 
-pub use lines::{write_header_line, write_row_line};
+pub use lines::{write_header_line, write_row_line, write_row_line_at};
 pub use stops::write_stop;

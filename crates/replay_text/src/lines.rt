@@ -1,5 +1,5 @@
 //! The lines that a replay prints.
-ghost use Rattle.std.specs.Prelude.{◌≡◌, ◌++◌, ◌∷◌, [], OnOk};
+ghost use Rattle.std.specs.Prelude.{◌≡◌, ◌++◌, ◌∷◌, [], OnOk, IfSome};
 ghost use Rattle.std.specs.List.{list_any, flat_map};
 ghost use Rattle.replay_text.specs.Lines.{wants_quotes, between_quotes, written_name, link_name};
 ghost use Rattle.replay_text.specs.Lines.{comma_before, header_line, row_line};
@@ -13,6 +13,7 @@ use num_text::moments::moment_text;
 use num_text::values::value_text;
 use object_index::ObjectIndex;
 use rule_types::{ObjectNo, Rules, Space};
+use trace_csv::WrittenMoment;
 
 /// Writes the header behind a text: `moment` and the names of the controlled links in link order,
 /// joined by commas, and LF. A name that holds a comma or a double quote is put in double quotes,
@@ -106,6 +107,22 @@ pub fn write_row_line(out: &mut Vec<u8>, moment: Moment, settings: &[Frac]) -> R
     Ok(())
 }
 
+/// The same, where the moment comes with its text.
+#[tactic(auto, unfolding(crate::specs::Lines::row_line))]
+pub fn write_row_line_at(
+    out: &mut Vec<u8>,
+    moment: &WrittenMoment,
+    settings: &[Frac],
+) -> Result<(), NoMemory>
+    ensures text { OnOk result
+        (out.new.items ≡ out.old.items ++ row_line moment.now settings.now) }
+{
+    out.extend_from_slice(moment.as_bytes())?;
+    write_settings(out, settings)?;
+    out.push(b'\n')?;
+    Ok(())
+}
+
 /// Writes settings, each after a comma.
 fn write_settings(out: &mut Vec<u8>, settings: &[Frac]) -> Result<(), NoMemory>
     ensures { OnOk result (out.new.items ≡ out.old.items
@@ -113,8 +130,37 @@ fn write_settings(out: &mut Vec<u8>, settings: &[Frac]) -> Result<(), NoMemory>
 {
     for setting in settings {
         out.push(b',')?;
-        let written = value_text(*setting);
-        out.extend_from_slice(written.as_bytes())?;
+        write_value(out, *setting)?;
     }
     Ok(())
+}
+
+/// Writes a number.
+fn write_value(out: &mut Vec<u8>, value: Frac) -> Result<(), NoMemory>
+    ensures { OnOk result (out.new.items ≡ out.old.items ++ written_value value) }
+{
+    if let Some(digit) = digit_of(value) {
+        out.push(digit)?;
+        return Ok(());
+    }
+    let written = value_text(value);
+    out.extend_from_slice(written.as_bytes())?;
+    Ok(())
+}
+
+/// The digit that a number is written as. None where it is written as more than that.
+fn digit_of(value: Frac) -> Option<u8>
+    ensures { IfSome result (λ digit. written_value value ≡ digit ∷ []) }
+{
+    if value.den() != 1 {
+        return None;
+    }
+    let number = value.num();
+    if number < 0 {
+        return None;
+    }
+    if number > 9 {
+        return None;
+    }
+    Some(b'0' + number as u8)
 }

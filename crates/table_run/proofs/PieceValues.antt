@@ -3,13 +3,13 @@ use Rattle.std.proofs.Common.{◌≡◌, ℕ, ◌+◌, ◌<◌, ◌≤◌, Bool,
 use Rattle.std.proofs.lemmas.List.{drop_more, set_at, map_more, length-map, length-take-le, take_all, drop_all, append-nil}
 use Rattle.std.proofs.lemmas.Option.{slice_get_within, get_or_from_slice_get}
 use Rattle.std.specs.Prelude.{slice_get, Contains}
-use Rattle.rule_types.specs.declared.condition.Condition.{Condition}
 use Rattle.rule_types.specs.declared.condition.Side.{Side}
-use Rattle.rule_types.specs.declared.rule.Rule.{Rule}
 use Rattle.rule_types.specs.declared.rules.Rules.{Rules}
 use Rattle.rule_types.specs.declared.state.State.{State}
 use Rattle.rule_meaning.specs.Condition.{left_value}
-use Rattle.premise_eval.specs.Columns.{value_in, IsColumn}
+use Rattle.rule_meaning.specs.Formula.{is_used}
+use Rattle.premise_eval.specs.declared.column.Column.{Column}
+use Rattle.premise_eval.specs.Columns.{value_in, SideAsked}
 use Rattle.premise_eval.specs.Kept.{Kept}
 use Rattle.premise_eval.proofs.PublicLaws.{columns-made, columns-asked}
 use Rattle.action_values.specs.Links.{IsSound}
@@ -20,7 +20,7 @@ use Rattle.table_plan.specs.declared.plan_column.PlanColumn.{PlanColumn}
 use Rattle.table_run.specs.Sides.{is_left_side}
 use Rattle.table_run.specs.Planned.{value_read}
 use Rattle.table_run.specs.declared.sources.ConditionAt.{ConditionAt}
-use Rattle.table_run.specs.internal.Sources.{HasLeft, IsSource, AreSources}
+use Rattle.table_run.specs.internal.Sources.{HasLeft, IsLeftColumn, IsSource, AreSources}
 use Rattle.table_run.proofs.SourceSteps.{source_left}
 use Rattle.table_run.proofs.Zips.{zipped, zip_long}
 
@@ -73,35 +73,37 @@ read_none x s column h = sym (ap (λ b. cond b (left_value x s column) None) h)
 contained : {A : Type 0} (xs : List A) (k : ℕ) (one : A) → slice_get xs k ≡ Some one → Contains xs one
 contained xs k one is = (k, slice_get_within xs k one is, get_or_from_slice_get xs k one one is)
 
-pub left_read : (x : Rules) (s : State) (kept : Kept) (at : ConditionAt) (column : Side) (number : ℕ)
-    → IsSound x s kept → HasLeft x at column
-    → ((row : Rule) (c : Condition) → slice_get x.rules at.rule ≡ Some row → slice_get row.conditions at.number ≡ Some c → IsColumn kept.columns number c.left)
+pub left_read : (x : Rules) (s : State) (kept : Kept) (column : Side) (number : ℕ)
+    → IsSound x s kept → IsLeftColumn x kept.columns number column
     → value_in kept.values number ≡ left_value x s column
-left_read x s kept at column number sound h each =
-    let c = h.of_row.condition in
-    let asked = columns-asked x x.rules h.row at.number c (contained x.rules at.rule h.row h.of_rules) h.of_row.is in
-    let made = columns-made x x.rules s kept number c.left sound.made (each h.row c h.of_rules h.of_row.is) asked in
-    ap (λ o. option_and_then (λ v. v) o) made ∙ ap (left_value x s) h.of_row.left
+left_read x s kept column number sound h =
+    let at = h.condition in
+    let row = h.left.row in
+    let c = h.left.of_row.condition in
+    let asked : SideAsked (is_used x x.rules) c.left =
+    columns-asked x x.rules row at.number c (contained x.rules at.rule row h.left.of_rules) h.left.of_row.is in
+    let on : SideAsked (is_used x x.rules) column = subst (λ side. SideAsked (is_used x x.rules) side) h.left.of_row.left asked in
+    ap (λ o. option_and_then (λ v. v) o) (columns-made x x.rules s kept number column sound.made h.column on)
 
-pub source_at : (x : Rules) (columns : List PlanColumn) (sources : List (Option ConditionAt)) (k : ℕ) (d : PlanColumn) (e : Option ConditionAt)
-    → AreSources x columns sources → k < length columns → IsSource x (get_or columns k d).side (get_or sources k e)
+pub source_at : (x : Rules) (among : List Column) (columns : List PlanColumn) (sources : List (Option ℕ)) (k : ℕ) (d : PlanColumn) (e : Option ℕ)
+    → AreSources x among columns sources → k < length columns → IsSource x among (get_or columns k d).side (get_or sources k e)
 unfolding AreSources
-source_at x columns sources k d e all within =
-    zipped (λ (column : PlanColumn) (source : Option ConditionAt). IsSource x column.side source) columns sources all k d e within
+source_at x among columns sources k d e all within =
+    zipped (λ (column : PlanColumn) (source : Option ℕ). IsSource x among column.side source) columns sources all k d e within
 
-pub sources_long : (x : Rules) (columns : List PlanColumn) (sources : List (Option ConditionAt))
-    → AreSources x columns sources → length columns ≡ length sources
+pub sources_long : (x : Rules) (among : List Column) (columns : List PlanColumn) (sources : List (Option ℕ))
+    → AreSources x among columns sources → length columns ≡ length sources
 unfolding AreSources
-sources_long x columns sources all =
-    zip_long (λ (column : PlanColumn) (source : Option ConditionAt). IsSource x column.side source) columns sources all
+sources_long x among columns sources all =
+    zip_long (λ (column : PlanColumn) (source : Option ℕ). IsSource x among column.side source) columns sources all
 
-pub some_source : (x : Rules) (column : Side) (source : Option ConditionAt) (at : ConditionAt)
-    → source ≡ Some at → IsSource x column source → HasLeft x at column
-some_source x column source at is h = subst (IsSource x column) is h
+pub some_source : (x : Rules) (among : List Column) (column : Side) (source : Option ℕ) (at : ℕ)
+    → source ≡ Some at → IsSource x among column source → IsLeftColumn x among at column
+some_source x among column source at is h = subst (IsSource x among column) is h
 
-pub none_source : (x : Rules) (column : Side) (source : Option ConditionAt)
-    → source ≡ None → IsSource x column source → is_left_side x column ≡ false
-none_source x column source is h = subst (IsSource x column) is h
+pub none_source : (x : Rules) (among : List Column) (column : Side) (source : Option ℕ)
+    → source ≡ None → IsSource x among column source → is_left_side x column ≡ false
+none_source x among column source is h = subst (IsSource x among column) is h
 
 pub pieces_are : (x : Rules) (s : State) (columns : List PlanColumn) (pieces : List (Option ℕ))
     → pieces ≡ map (λ column. option_map (piece column.cuts) (value_read x s column.side)) columns

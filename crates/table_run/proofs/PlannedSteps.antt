@@ -12,6 +12,7 @@ use Rattle.rule_types.specs.WellFormed.{WellFormed}
 use Rattle.rule_meaning.specs.History.{memory_listed}
 use Rattle.rule_meaning.specs.Premise.{listed}
 use Rattle.rule_meaning.specs.Reading.{conditions_at, pids_stop, unless_stopped}
+use Rattle.premise_eval.specs.declared.column.Column.{Column}
 use Rattle.table_compiler.specs.Meaning.{condition_holds}
 use Rattle.table_plan.specs.Plan.{Plan, pieces_of}
 use Rattle.table_plan.specs.Told.{told_at}
@@ -36,16 +37,16 @@ same_truth : (x : Rules) (s : State) (truths : StateOfRules) → truths.rules �
 same_truth x s truths rules state =
     λ i at place. condition_holds (rules i) (state i) (slice_get (conditions_at (rules i).rules at) place)
 
-pub next_is : (x : Rules) (s : State) (kit : PlannedKit) (plan : Plan) (pieces fresh : List (Option ℕ))
+pub next_is : (x : Rules) (s : State) (among : List Column) (kit : PlannedKit) (plan : Plan) (pieces fresh : List (Option ℕ))
     (firsts next : List (Option ActionAt)) (truths : StateOfRules)
-    → WellFormed x → IsPlanned x kit
+    → WellFormed x → IsPlanned x among kit
     → plan ≡ kit.plan → pieces ≡ kit.pieces → firsts ≡ kit.firsts
     → fresh ≡ pieces_of plan.columns (value_read x s)
     → truths.rules ≡ x → truths.state ≡ s
     → length next ≡ length firsts
     → ((other : ActionAt → ℕ → Bool) → AreFirsts plan pieces other firsts → AreFirsts plan fresh (truth_of truths) next)
     → next ≡ map (planned x kit.plan s) x.controlled
-next_is x s kit plan pieces fresh firsts next truths formed serves same_plan same_pieces same_firsts read rules state long orders =
+next_is x s among kit plan pieces fresh firsts next truths formed serves same_plan same_pieces same_firsts read rules state long orders =
     let truth = serves.kept.truth in
     let one : AreFirsts plan kit.pieces truth kit.firsts = subst (λ (p : Plan). AreFirsts p kit.pieces truth kit.firsts) (sym same_plan) serves.kept.are in
     let two : AreFirsts plan pieces truth kit.firsts = subst (λ (l : List (Option ℕ)). AreFirsts plan l truth kit.firsts) (sym same_pieces) one in

@@ -15,7 +15,7 @@ use Rattle.table_compiler.specs.Parts.{same_column}
 use Rattle.table_run.specs.Sides.{is_left_side}
 use Rattle.table_run.proofs.LeftConditions.{any_found, same_is, same_left}
 use Rattle.table_run.specs.declared.sources.ConditionAt.{ConditionAt}
-use Rattle.table_run.specs.internal.Sources.{HasLeftAt, HasLeft, NoLeftBefore, NoLeftIn, IsSource, AreSources}
+use Rattle.table_run.specs.internal.Sources.{HasLeftAt, HasLeft, NoLeftBefore, NoLeftIn, IsConditionOf, IsSource, AreSources}
 use Rattle.table_plan.specs.declared.plan_column.PlanColumn.{PlanColumn}
 use Rattle.table_run.proofs.Zips.{zip_all}
 
@@ -110,12 +110,12 @@ pub source_left : (x : Rules) (at : ConditionAt) (column : Side) → HasLeft x a
 source_left x at column h =
     same_left x at.rule h.row at.number h.of_row.condition column h.of_rules h.of_row.is h.of_row.left
 
-pub source_of : (x : Rules) (column : Side) (found : Option ConditionAt)
+pub condition_is : (x : Rules) (column : Side) (found : Option ConditionAt)
     → IfSome found (λ at. HasLeft x at column)
     → (found ≡ None → NoLeftIn x.rules (length x.rules) column)
-    → IsSource x column found
-source_of x column (Some at) is absent = is
-source_of x column None is absent = not_left x column (absent refl)
+    → IsConditionOf x column found
+condition_is x column (Some at) is absent = is
+condition_is x column None is absent = not_left x column (absent refl)
 
 pub found_at : (conditions : List Condition) (column : Side) (found : Option ℕ) (number : ℕ)
     → found ≡ Some number → IfSome found (λ n. HasLeftAt conditions n column)
@@ -124,13 +124,13 @@ found_at conditions column found number is has =
     let h : IfSome (Some number) (λ n. HasLeftAt conditions n column) = subst (λ (o : Option ℕ). IfSome o (λ n. HasLeftAt conditions n column)) is has in
     h
 
-pub all_sources : (x : Rules) (columns : List PlanColumn) (sources : List (Option ConditionAt)) (i : ℕ)
+pub all_sources : (x : Rules) (among : List Column) (columns : List PlanColumn) (sources : List (Option ℕ)) (i : ℕ)
     → length columns ≤ i
-    → AllZip (λ (column : PlanColumn) (source : Option ConditionAt). IsSource x column.side source) (take i columns) sources
-    → AreSources x columns sources
+    → AllZip (λ (column : PlanColumn) (source : Option ℕ). IsSource x among column.side source) (take i columns) sources
+    → AreSources x among columns sources
 unfolding AreSources
-all_sources x columns sources i past all =
-    zip_all (λ (column : PlanColumn) (source : Option ConditionAt). IsSource x column.side source) columns columns sources i refl past all
+all_sources x among columns sources i past all =
+    zip_all (λ (column : PlanColumn) (source : Option ℕ). IsSource x among column.side source) columns columns sources i refl past all
 
 pub exists : (x : Rules) (at : ConditionAt) (side : Side) → HasLeft x at side → ConditionExists x at.rule at.number
 exists x at side h =

@@ -5,19 +5,20 @@ use Rattle.rule_types.specs.declared.rules.Rules.{Rules}
 use Rattle.rule_types.specs.declared.state.State.{State}
 use Rattle.rule_types.specs.Reading.{pid_count}
 use Rattle.premise_eval.specs.Kept.{Kept, IsPlan}
+use Rattle.premise_eval.specs.declared.column.Column.{Column}
 use Rattle.action_values.specs.Links.{ControlledPlaces}
 use Rattle.table_plan.specs.Plan.{Plan}
-use Rattle.table_run.specs.declared.sources.ConditionAt.{ConditionAt}
 use Rattle.table_run.specs.Pids.{listed_pids}
 use Rattle.table_run.specs.Planned.{AreFirsts}
 use Rattle.table_run.specs.internal.PidRules.{pid_rules}
 use Rattle.table_run.specs.internal.Sources.{AreSources}
 
--- a plan of tables, and for each of its columns a condition that has it on its left; the pieces at
--- the last reading and what the tables ordered there; and room for the next reading
+-- a plan of tables, and for each of its columns the number of the column of the values that has its
+-- side; the pieces at the last reading and what the tables ordered there; and room for the next
+-- reading
 pub record PlannedKit : Type 0 where
   pub plan : Plan
-  pub sources : List (Option ConditionAt)
+  pub sources : List (Option ℕ)
   pub pieces : List (Option ℕ)
   pub firsts : List (Option ActionAt)
   pub fresh : List (Option ℕ)
@@ -29,9 +30,9 @@ pub record KeepsFirsts (plan : Plan) (pieces : List (Option ℕ)) (firsts : List
   pub truth : ActionAt → ℕ → Bool
   pub are : AreFirsts plan pieces truth firsts
 
--- what is kept serves rules
-pub record IsPlanned (x : Rules) (kit : PlannedKit) : Type 0 where
-  pub sources : AreSources x kit.plan.columns kit.sources
+-- what is kept serves rules and values of these columns
+pub record IsPlanned (x : Rules) (among : List Column) (kit : PlannedKit) : Type 0 where
+  pub sources : AreSources x among kit.plan.columns kit.sources
   pub kept : KeepsFirsts kit.plan kit.pieces kit.firsts
   pub pieces : length kit.pieces ≡ length kit.plan.columns
   pub firsts : length kit.firsts ≡ length x.controlled
@@ -59,7 +60,7 @@ pub record IsTableKit (x : Rules) (count : ℕ) (kit : TableKit) : Type 0 where
   pub pids : kit.pids ≡ pid_rules 0 x.rules
   pub pairs : HasPidRoom x kit.pairs
   pub memories : kit.memories ≡ count
-  pub planned : IsPlanned x kit.planned
+  pub planned : IsPlanned x kit.kept.columns kit.planned
 
 -- it has a kit for the rules and their PID actions, and room for an order of each controlled link
 pub record HasTableRoom (x : Rules) (kit : TableKit) (room : ℕ) : Type 0 where

@@ -2,16 +2,15 @@
 ghost use Rattle.std.specs.Prelude.{◌≡◌, length, option_map};
 ghost use Rattle.rule_types.specs.declared.condition.Side.{Side as AnySide};
 ghost use Rattle.rule_meaning.specs.Condition.{left_value};
-ghost use Rattle.premise_eval.specs.Columns.{ConditionExists, value_in as value_of};
+ghost use Rattle.premise_eval.specs.Columns.{value_in as value_of};
 ghost use Rattle.action_values.specs.Links.{IsSound};
 ghost use Rattle.table_plan.specs.Pieces.{piece};
 ghost use Rattle.table_plan.specs.Plan.{pieces_of};
 ghost use Rattle.table_run.specs.Planned.{value_read as told_value};
-ghost use Rattle.table_run.specs.internal.Sources.{HasLeft, IsSource, AreSources};
+ghost use Rattle.table_run.specs.internal.Sources.{IsLeftColumn, IsSource, AreSources};
 
-use crate::sources::ConditionAt;
 use exact_fraction::frac::Frac;
-use premise_eval::{Values, left_column};
+use premise_eval::Values;
 use rule_types::{Rules, Side, State};
 use table_plan::PlanColumn;
 
@@ -21,11 +20,11 @@ pub(crate) fn read_pieces(
     state: &State,
     values: &Values,
     columns: &[PlanColumn],
-    sources: &[Option<ConditionAt>],
+    sources: &[Option<usize>],
     pieces: &mut [Option<usize>],
 )
     requires sound { IsSound rules.now state.now values.now }
-    requires sources { AreSources rules.now columns.now sources.now }
+    requires sources { AreSources rules.now values.now.columns columns.now sources.now }
     requires each { length pieces.old ≡ length columns.now }
     ensures pieces { pieces.new ≡ pieces_of columns.now (told_value rules.now state.now) }
 {
@@ -41,10 +40,10 @@ fn piece_read(
     state: &State,
     values: &Values,
     column: &PlanColumn,
-    source: &Option<ConditionAt>,
+    source: &Option<usize>,
 ) -> Option<usize>
     requires sound { IsSound rules.now state.now values.now }
-    requires source { IsSource rules.now column.now.side source.now }
+    requires source { IsSource rules.now values.now.columns column.now.side source.now }
     ensures piece { result ≡ option_map (piece column.now.cuts)
         (told_value rules.now state.now column.now.side) }
 {
@@ -60,29 +59,28 @@ fn value_read(
     state: &State,
     values: &Values,
     side: &Side,
-    source: &Option<ConditionAt>,
+    source: &Option<usize>,
 ) -> Option<Frac>
     requires sound { IsSound rules.now state.now values.now }
-    requires source { IsSource rules.now side.now source.now }
+    requires source { IsSource rules.now values.now.columns side.now source.now }
     ensures value { result ≡ told_value rules.now state.now side.now }
 {
     let _side = side.is_time();
     match source {
-        Some(at) => left_value(rules, state, values, at),
+        Some(at) => left_value(rules, state, values, *at),
         None => None,
     }
 }
 
-/// The value of the side on the left of a condition.
-fn left_value(rules: &Rules, state: &State, values: &Values, at: &ConditionAt) -> Option<Frac>
+/// The value of a column whose side a condition has on its left.
+fn left_value(rules: &Rules, state: &State, values: &Values, at: usize) -> Option<Frac>
     requires sound { IsSound rules.now state.now values.now }
-    requires exists { ConditionExists rules.now at.now.rule at.now.number }
-    ensures value { (side : AnySide) → HasLeft rules.now at.now side
+    ensures value { (side : AnySide) → IsLeftColumn rules.now values.now.columns at side
         → result ≡ left_value rules.now state.now side }
 {
+    let _rules = rules.rules.len();
     let _moment = state.moment;
-    let column = left_column(rules, values, at.rule, at.number);
-    value_in(values.columns(), column)
+    value_in(values.columns(), at)
 }
 
 /// The value of a number among values, or None where there is none.

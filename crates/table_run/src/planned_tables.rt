@@ -1,7 +1,9 @@
 //! Planned tables, with the pieces and the orders of the last reading.
-ghost use Rattle.std.specs.Prelude.{◌≡◌, IfOk, length, map};
+ghost use Rattle.std.specs.Prelude.{◌≡◌, IfOk, List, length, map};
 ghost use Rattle.rule_types.specs.declared.rules.Rules.{Rules as AnyRules};
 ghost use Rattle.rule_types.specs.WellFormed.{WellFormed};
+ghost use Rattle.premise_eval.specs.Kept.{IsPlan};
+ghost use Rattle.premise_eval.specs.declared.column.Column.{Column as AnyColumn};
 ghost use Rattle.action_values.specs.Links.{IsSound};
 ghost use Rattle.table_plan.specs.Plan.{IsPlanOf};
 ghost use Rattle.table_run.specs.Kits.{IsPlanned, KeepsFirsts};
@@ -10,7 +12,7 @@ ghost use Rattle.table_run.specs.Planned.{planned};
 use crate::condition_truths::{NoConditions, StateConditions};
 use crate::firsts::{order_all, order_changed};
 use crate::pieces::read_pieces;
-use crate::sources::{ConditionAt, sources};
+use crate::sources::sources;
 use byte_edge::NoMemory;
 use premise_eval::Values;
 use rule_types::{ActionAt, Rules, State};
@@ -26,8 +28,8 @@ use table_plan::TablePlan;
 #[derive(Drop)]
 pub(crate) struct PlannedTables {
     plan: TablePlan,
-    /// For each column of the plan a condition that has it on its left.
-    sources: Vec<Option<ConditionAt>>,
+    /// For each column of the plan the number of the column of the values that has its side.
+    sources: Vec<Option<usize>>,
     pieces: Vec<Option<usize>>,
     firsts: Vec<Option<ActionAt>>,
     /// Room for the pieces of the next reading.
@@ -57,14 +59,16 @@ impl PlannedTables {
     pub(crate) fn new(
         alloc: Global,
         rules: &Rules,
+        values: &Values,
         tables: &LinkTables,
     ) -> Result<PlannedTables, NoMemory>
         requires well_formed { WellFormed rules.now }
-        ensures planned { IfOk result (IsPlanned rules.now) }
+        requires values { IsPlan rules.now values.now }
+        ensures planned { IfOk result (IsPlanned rules.now values.now.columns) }
         ensures plan { IfOk result (λ planned. IsPlanOf planned.plan tables.now.tables) }
     {
         let plan = TablePlan::new(alloc, tables)?;
-        let sources = sources(alloc, rules, plan.columns())?;
+        let sources = sources(alloc, rules, values, plan.columns())?;
         let pieces = vec![in alloc; None; plan.columns().len()]?;
         let fresh = vec![in alloc; None; plan.columns().len()]?;
         let firsts = first_orders(alloc, &plan, &pieces, rules.controlled.len())?;
@@ -84,11 +88,11 @@ impl PlannedTables {
     /// last reading stays until `keep`. It takes no memory.
     pub(crate) fn read(&mut self, rules: &Rules, state: &State, values: &Values)
         requires sound { IsSound rules.now state.now values.now }
-        requires planned { IsPlanned rules.now self.old }
+        requires planned { IsPlanned rules.now values.now.columns self.old }
         ensures next { self.new.next
             ≡ map (planned rules.now self.old.plan state.now) rules.now.controlled }
         ensures fresh { KeepsFirsts self.new.plan self.new.fresh self.new.next }
-        ensures planned { IsPlanned rules.now self.new }
+        ensures planned { IsPlanned rules.now values.now.columns self.new }
         ensures same_plan { self.new.plan ≡ self.old.plan }
         ensures same_pieces { self.new.pieces ≡ self.old.pieces }
         ensures same_firsts { self.new.firsts ≡ self.old.firsts }
@@ -116,7 +120,8 @@ impl PlannedTables {
     /// Keeps the pieces and the pairs of the reading that `read` worked out.
     pub(crate) fn keep(&mut self)
         requires fresh { KeepsFirsts self.old.plan self.old.fresh self.old.next }
-        ensures planned { (x : AnyRules) → IsPlanned x self.old → IsPlanned x self.new }
+        ensures planned { (x : AnyRules) (among : List AnyColumn)
+            → IsPlanned x among self.old → IsPlanned x among self.new }
         ensures same_plan { self.new.plan ≡ self.old.plan }
         ensures pieces { self.new.pieces ≡ self.old.fresh }
         ensures firsts { self.new.firsts ≡ self.old.next }

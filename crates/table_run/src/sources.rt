@@ -3,9 +3,11 @@ ghost use Rattle.std.specs.Prelude.{◌≡◌, None, IfOk, IfSome, length};
 ghost use Rattle.std.specs.Bool.{OnTrue};
 ghost use Rattle.rule_types.specs.WellFormed.{WellFormed, IsCountable};
 ghost use Rattle.table_run.specs.internal.Sources.{HasLeft, HasLeftAt, NoLeftBefore, NoLeftIn};
-ghost use Rattle.table_run.specs.internal.Sources.{IsSource, AreSources};
+ghost use Rattle.premise_eval.specs.Kept.{IsPlan};
+ghost use Rattle.table_run.specs.internal.Sources.{IsConditionOf, IsSource, AreSources};
 
 use byte_edge::NoMemory;
+use premise_eval::{Values, left_column};
 use rule_types::{Key, Rule, Rules, Side};
 use std::alloc::Global;
 use std::collections::BTreeMap;
@@ -25,28 +27,44 @@ struct LeftSides {
     names: Vec<ConditionAt>,
 }
 
-/// For each column of a plan a condition that has it on its left, or None where there is none.
+/// For each column of a plan the number of the column of the values that has its side, or None where
+/// no condition has that on its left.
 pub(crate) fn sources(
     alloc: Global,
     rules: &Rules,
+    values: &Values,
     columns: &[PlanColumn],
-) -> Result<Vec<Option<ConditionAt>>, NoMemory>
+) -> Result<Vec<Option<usize>>, NoMemory>
     requires well_formed { WellFormed rules.now }
-    ensures sources { IfOk result (λ sources. AreSources rules.now columns.now sources.items) }
+    requires plan { IsPlan rules.now values.now }
+    ensures sources { IfOk result
+        (λ sources. AreSources rules.now values.now.columns columns.now sources.items) }
 {
     let lefts = left_sides(alloc, rules)?;
     let mut sources = Vec::new(alloc);
     for column in columns {
-        let source = condition_of(rules, &lefts, &column.side);
+        let source = source_of(rules, values, &lefts, &column.side);
         sources.push(source)?;
     }
     Ok(sources)
 }
 
+/// The number of the column of the values that has a side, where a condition has it on its left.
+fn source_of(rules: &Rules, values: &Values, lefts: &LeftSides, side: &Side) -> Option<usize>
+    requires well_formed { WellFormed rules.now }
+    requires plan { IsPlan rules.now values.now }
+    ensures source { IsSource rules.now values.now.columns side.now result }
+{
+    match condition_of(rules, lefts, side) {
+        Some(at) => Some(left_column(rules, values, at.rule, at.number)),
+        None => None,
+    }
+}
+
 /// A condition that has a side on its left: the noted one, and failing that the first in the file.
 fn condition_of(rules: &Rules, lefts: &LeftSides, side: &Side) -> Option<ConditionAt>
     requires well_formed { WellFormed rules.now }
-    ensures source { IsSource rules.now side.now result }
+    ensures source { IsConditionOf rules.now side.now result }
 {
     if let Some(at) = noted(lefts, side) {
         if has_left(rules, &at, side) {

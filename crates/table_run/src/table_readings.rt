@@ -75,7 +75,7 @@ impl TableReadings {
         let pids = pid_rules(alloc, rules.rules.as_slice())?;
         let after = fresh_memories(alloc, rules.rules.as_slice())?;
         let listed = room_for_pids(alloc, rules, after.len())?;
-        let planned = PlannedTables::new(alloc, rules, tables)?;
+        let planned = PlannedTables::new(alloc, rules, &values, tables)?;
         Ok(TableReadings {
             values,
             places,
@@ -161,7 +161,7 @@ fn read_planned(
     requires places { ControlledPlaces rules.now places.now }
     requires pids { pids.now ≡ numbers_of 0 rules.now.rules }
     requires pairs { HasPidRoom rules.now (vec_capacity listed.old) }
-    requires planned { IsPlanned rules.now planned.old }
+    requires planned { IsPlanned rules.now values.now.columns planned.old }
     requires room_after { length after.old ≡ length memories.old }
     requires counted { (at : AnyPair) → PairCounted rules.now.rules (length memories.old) at }
     requires ready { (at : AnyPair)
@@ -176,7 +176,7 @@ fn read_planned(
         ≡ memory_told result rules.now state.now (memory_of memories.old) number
         (listed_at rules.now state.now) }
     ensures pairs { HasPidRoom rules.now (vec_capacity listed.new) }
-    ensures planned { IsPlanned rules.now planned.new }
+    ensures planned { IsPlanned rules.now values.now.columns planned.new }
     ensures same_plan { planned.new.plan ≡ planned.old.plan }
     ensures kept_pieces { OnErr result (planned.new.pieces ≡ planned.old.pieces) }
     ensures kept_firsts { OnErr result (planned.new.firsts ≡ planned.old.firsts) }

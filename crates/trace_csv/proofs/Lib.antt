@@ -4,7 +4,10 @@ pub mod Filled
 pub mod Finding
 pub mod June
 pub mod Marks
+pub mod OneDigit
 pub mod Plain
 pub mod RecordFields
 pub mod RowsIn
+pub mod SameDay
 pub mod Steps
+pub mod WrittenFields

@@ -1,5 +1,5 @@
 -- The row of a record, from its parts.
-use Rattle.std.proofs.Common.{◌≡◌, ℕ, suc, ◌+◌, Bool, true, false, not, cond, ◌==◌, List, ◌∷◌, length, Option, Some, None, Result, Ok, Err, refl, ap, sym, ◌∙◌, arith, replicate, All, ℤ}
+use Rattle.std.proofs.Common.{◌≡◌, ℕ, suc, ◌+◌, Bool, true, false, not, cond, ◌==◌, List, ◌∷◌, length, Option, Some, None, Result, Ok, Err, refl, ap, sym, ◌∙◌, subst, arith, replicate, All, ℤ, IfOk, IfSome}
 use Rattle.std.proofs.lemmas.Bool.Decides.{nat_tests}
 use Rattle.exact_fraction.specs.Number.{Rational}
 use Rattle.rule_types.specs.declared.row.Row.{Row}
@@ -10,6 +10,7 @@ use Rattle.trace_csv.specs.Records.{is_plain_line, cut_at_commas}
 use Rattle.trace_csv.specs.Rows.{has_bad, inputs_of, moment_in, row_at, row_in, some_row, row_of}
 use Rattle.trace_csv.specs.internal.Filling.{Within, filled, where_good, row_with, answer_with, end_of}
 use Rattle.trace_csv.specs.declared.fault.TraceCause.{TraceCause}
+use Rattle.trace_csv.specs.declared.fault.TraceEnd.{TraceEnd}
 use Rattle.trace_csv.specs.declared.fault.TraceCause.TheVariants.{FieldCount, BadNumber}
 use Rattle.trace_csv.proofs.Filled.{filled_row}
 use Rattle.trace_csv.proofs.Plain.{plain_line_cut}
@@ -90,3 +91,31 @@ plain_answer_by header columns items count inputs last start line row new view s
       columns = (same ∙ ap (λ (h : Columns). h.columns) view) i;
       inputs = long i;
     }
+
+-- the moment of the answer is that of the row
+by_row : (row : Result ℤ TraceCause) (new : ℤ) → IfOk row (λ moment. new ≡ moment) → IfOk (end_of row) (λ found. IfSome found (λ moment. new ≡ moment))
+by_row (Ok moment) new is = is
+by_row (Err cause) new is = tt
+
+pub written_end : (row : Result ℤ TraceCause) (end : Result (Option ℤ) TraceEnd) (new : ℤ) → end ≡ end_of row → IfOk row (λ moment. new ≡ moment)
+    → IfOk end (λ found. IfSome found (λ moment. new ≡ moment))
+written_end row end new same is = subst (λ (e : Result (Option ℤ) TraceEnd). IfOk e (λ found. IfSome found (λ moment. new ≡ moment))) (sym same) (by_row row new is)
+
+-- the row of a moment and of the fields behind it
+pub row_filled : (header : Columns) (rest : List (List ℕ)) (moment : ℤ) (good : Bool) (inputs : List (Option Rational))
+    → All (Within header.inputs) header.columns → has_duplicate header.columns ≡ false
+    → where_good good inputs ≡ filled header.columns rest (replicate header.inputs None)
+    → made good moment inputs ≡ row_at header rest (Ok moment)
+row_filled header rest moment good inputs within single fill =
+    by_good good (has_bad header.columns rest) moment inputs (inputs_of header rest)
+    (fill ∙ filled_row header rest header.inputs refl within single)
+
+-- a row by its moment and the fields behind it
+pub row_by : (header : Columns) (last start : Option ℤ) (fields : List (List ℕ)) (first : List ℕ) (rest : List (List ℕ)) (read : Result ℤ TraceCause) (row : Result Row TraceCause)
+    → fields ≡ first ∷ rest → length fields ≡ 1 + length header.columns → read ≡ moment_in last start first
+    → row ≡ row_at header rest read → row ≡ row_in header last start fields
+row_by header last start fields first rest read row cut count is made_of =
+    let long : suc (length rest) ≡ 1 + length header.columns = sym (ap length cut) ∙ count in
+    made_of ∙ ap (row_at header rest) is
+    ∙ sym (counted_right header last start first rest (omega arith))
+    ∙ ap (row_in header last start) (sym cut)

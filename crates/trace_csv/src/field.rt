@@ -1,5 +1,5 @@
 //! What fields say.
-ghost use Rattle.std.specs.Prelude.{◌≡◌};
+ghost use Rattle.std.specs.Prelude.{◌≡◌, IfSome, Ok, Some};
 ghost use Rattle.inp_text.specs.Items.{is_blank as is_blank_byte};
 ghost use Rattle.trace_csv.specs.Fields.{without_front_blanks as past_blanks};
 ghost use Rattle.trace_csv.specs.Fields.{without_end_blanks as before_blanks};
@@ -53,7 +53,26 @@ pub(crate) fn trimmed(field: &[u8]) -> &[u8]
 pub(crate) fn field_input(field: &[u8]) -> Result<Option<Frac>, NumberFault>
     ensures { result ≡ input_in_field field.now }
 {
-    input_of(trimmed(field))
+    match digit_in(field) {
+        Some(number) => Ok(Some(number)),
+        None => input_of(trimmed(field)),
+    }
+}
+
+/// The number of a field that is one digit. None for all other fields.
+fn digit_in(field: &[u8]) -> Option<Frac>
+    ensures { IfSome result (λ number. input_in_field field.now ≡ Ok (Some number)) }
+{
+    let [digit] = field else {
+        return None;
+    };
+    if *digit < b'0' {
+        return None;
+    }
+    if *digit > b'9' {
+        return None;
+    }
+    Some(Frac::natural((*digit - b'0') as u32))
 }
 
 /// What a text says of an input.

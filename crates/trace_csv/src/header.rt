@@ -1,5 +1,5 @@
 //! The header of a trace, and its rows.
-ghost use Rattle.std.specs.Prelude.{◌≡◌, length, codes, IfOk, All};
+ghost use Rattle.std.specs.Prelude.{◌≡◌, length, codes, IfOk, IfSome, All};
 ghost use Rattle.std.specs.Str.{str_eq_ignore_ascii_case};
 ghost use Rattle.csv.specs.Records.{fields_of};
 ghost use Rattle.rule_types.specs.KeyOrder.{IsInKeyOrder};
@@ -14,8 +14,9 @@ ghost use Rattle.trace_csv.specs.internal.Marking.{fault_of_columns};
 use crate::columns::{are_marked, column_inputs, marks_twice};
 use crate::fault::{TraceCause, TraceEnd};
 use crate::field::trimmed;
-use crate::record::{first_field, is_plain_line, record_in};
-use crate::row::{plain_row, record_row};
+use crate::record::{first_field, plain_commas, record_in};
+use crate::row::{plain_row, quick_row, record_row};
+use crate::written_moment::WrittenMoment;
 use byte_edge::NoMemory;
 use csv::ByteRecord;
 use exact_fraction::frac::Frac;
@@ -100,7 +101,6 @@ impl Header {
     /// The same, but that the moment alone is returned and the inputs are written into `inputs`.
     /// It takes memory only where the line has a double quote or a CR, begins with a byte order
     /// mark or is empty. Where there is no row, nothing is said of what `inputs` holds.
-    #[tactic(auto, unfolding(crate::specs::Rows::row_of))]
     pub fn read_row(
         &self,
         alloc: Global,
@@ -113,17 +113,38 @@ impl Header {
         ensures answer { Answers (answer_with inputs.new result)
             (row_of self.now last.now start.now line.now) }
     {
-        if is_plain_line(line) {
-            return row_end(plain_row(self.columns.as_slice(), line, last, start, inputs));
+        let mut written = WrittenMoment::epoch();
+        self.read_next_row(alloc, line, last, start, &mut written, inputs)
+    }
+
+    /// The same, but that `written` becomes the moment too. It costs less where the line has its
+    /// moment as it is written, `YYYY-MM-DDThh:mm:ss`, and `written` is a moment of the same day,
+    /// as that of the row before mostly is.
+    #[tactic(auto, unfolding(crate::specs::Rows::row_of))]
+    pub fn read_next_row(
+        &self,
+        alloc: Global,
+        line: &[u8],
+        last: &Option<Moment>,
+        start: &Option<Moment>,
+        written: &mut WrittenMoment,
+        inputs: &mut [Option<Frac>],
+    ) -> Result<Option<Moment>, TraceEnd>
+        requires one_each { length inputs.old ≡ self.now.inputs }
+        ensures answer { Answers (answer_with inputs.new result)
+            (row_of self.now last.now start.now line.now) }
+        ensures written { IfOk result (λ row. IfSome row (λ moment. written.new ≡ moment)) }
+    {
+        let columns = self.columns.as_slice();
+        if let Some(row) = quick_row(columns, line, last, start, written, inputs) {
+            return row_end(row);
+        }
+        if let Some(commas) = plain_commas(line) {
+            let row = plain_row(columns, line, commas, last, start, written, inputs);
+            return row_end(row);
         }
         match record_in(alloc, line) {
-            Ok(Some(record)) => row_end(record_row(
-                self.columns.as_slice(),
-                &record,
-                last,
-                start,
-                inputs,
-            )),
+            Ok(Some(record)) => row_end(record_row(columns, &record, last, start, written, inputs)),
             Ok(None) => Ok(None),
             Err(_) => Err(TraceEnd::NoMemory),
         }

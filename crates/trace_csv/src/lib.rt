@@ -12,8 +12,8 @@ pub mod laws;
 mod record;
 mod row;
 mod row_moment;
-#[cfg(test)]
-mod tests;
+mod written_moment;
 
 pub use fault::{TraceCause, TraceEnd, write_fault};
 pub use header::Header;
+pub use written_moment::WrittenMoment;

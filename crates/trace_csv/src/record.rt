@@ -1,5 +1,6 @@
 //! The record of a line.
-ghost use Rattle.std.specs.Prelude.{◌≡◌, ◌∷◌, ◌<◌, ◌+◌, ◌==◌, IfOk, IfSome, option_map, length};
+ghost use Rattle.std.specs.Prelude.{◌≡◌, ◌∷◌, ◌<◌, ◌≤◌, ◌+◌, ◌==◌, true, if◌then◌else◌};
+ghost use Rattle.std.specs.Prelude.{IfOk, IfSome, option_map, length};
 ghost use Rattle.std.specs.List.{list_all, position};
 ghost use Rattle.csv.specs.Records.{fields_of};
 ghost use Rattle.trace_csv.specs.Fields.{first_field as first_of_fields};
@@ -38,25 +39,56 @@ pub(crate) fn first_field(row: &ByteRecord) -> &[u8]
     }
 }
 
-/// Whether the record of a line is the line cut at its commas: it has a byte, no double quote, no
-/// CR and no LF, and does not begin as a byte order mark does.
-pub(crate) fn is_plain_line(line: &[u8]) -> bool
-    ensures { result ≡ plain_line line.now }
+/// The number of commas of a line whose record is the line cut at its commas: it has a byte, no
+/// double quote, no CR and no LF, and does not begin as a byte order mark does. None for all other
+/// lines.
+pub(crate) fn plain_commas(line: &[u8]) -> Option<usize>
+    ensures plain { IfSome result (λ commas. plain_line line.now ≡ true) }
+    ensures count { IfSome result (λ commas. length (cut_at_commas line.now) ≡ 1 + commas) }
 {
     if line.is_empty() {
-        return false;
+        return None;
     }
     if line[0] == 239 {
-        return false;
+        return None;
     }
-    has_plain_bytes(line)
+    commas_of_plain(line)
 }
 
-/// Whether no byte is a double quote, CR or LF.
-fn has_plain_bytes(line: &[u8]) -> bool
-    ensures { result ≡ list_all is_plain line.now }
+/// The number of commas of a text without a double quote, CR and LF. None for all other texts.
+pub(crate) fn commas_of_plain(text: &[u8]) -> Option<usize>
+    ensures plain { IfSome result (λ commas. list_all is_plain text.now ≡ true) }
+    ensures count { IfSome result (λ commas. length (cut_at_commas text.now) ≡ 1 + commas) }
 {
-    line.iter().all(|byte| !(*byte == b'"' || (*byte == b'\r' || *byte == b'\n')))
+    let mut count: usize = 0;
+    for byte in text {
+        count += commas_in(*byte)?;
+    }
+    Some(count)
+}
+
+/// How many commas a byte is. None where it is a double quote, CR or LF.
+fn commas_in(byte: u8) -> Option<usize>
+    ensures plain { IfSome result (λ commas. is_plain byte ≡ true) }
+    ensures count { IfSome result (λ commas. commas ≡ (if byte == comma then 1 else 0)) }
+    ensures most { IfSome result (λ commas. commas ≤ 1) }
+{
+    if byte > b',' {
+        return Some(0);
+    }
+    if byte == b',' {
+        return Some(1);
+    }
+    if byte == b'"' {
+        return None;
+    }
+    if byte == b'\r' {
+        return None;
+    }
+    if byte == b'\n' {
+        return None;
+    }
+    Some(0)
 }
 
 /// The first field of a text that is cut at its commas, and the text behind the comma at its end,
@@ -90,17 +122,4 @@ fn comma_at(text: &[u8]) -> Option<usize>
     ensures within { IfSome result (λ at. at < length text.now) }
 {
     text.iter().position(|byte| *byte == b',')
-}
-
-/// The number of commas of a text.
-pub(crate) fn comma_count(text: &[u8]) -> usize
-    ensures { length (cut_at_commas text.now) ≡ 1 + result }
-{
-    let mut count: usize = 0;
-    for byte in text {
-        if *byte == b',' {
-            count += 1;
-        }
-    }
-    count
 }

@@ -5,3 +5,4 @@ pub mod LinkSteps
 pub mod PublicLaws
 pub mod Reaching
 pub mod RowFacts
+pub mod Zeros

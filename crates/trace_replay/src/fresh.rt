@@ -10,6 +10,7 @@ ghost use Rattle.replay_meaning.specs.Kept.{first_kept};
 ghost use Rattle.trace_replay.specs.Progress.{kept_of, IsProgressOf, ArePlaces};
 ghost use Rattle.trace_replay.specs.internal.Rows.{pids_among, is_pid_kind};
 
+use crate::hours::KnownHours;
 use crate::progress::Progress;
 use crate::settings::copy_settings;
 use byte_edge::NoMemory;
@@ -23,6 +24,7 @@ pub(crate) fn first_progress(alloc: Global, rules: &Rules) -> Result<Progress, N
     ensures kept { IfOk result (λ progress. kept_of progress ≡ first_kept rules.now) }
     ensures fits { IfOk result (IsProgressOf rules.now) }
 {
+    let known = KnownHours::new(alloc)?;
     let links = first_links(alloc, rules.initial.as_slice())?;
     let moved = first_links(alloc, rules.initial.as_slice())?;
     let switches = vec![in alloc; None; rules.tracked.len()]?;
@@ -40,6 +42,7 @@ pub(crate) fn first_progress(alloc: Global, rules: &Rules) -> Result<Progress, N
         inputs,
         places,
         settings,
+        known,
         start: rules.start,
         last: None,
         due: None,

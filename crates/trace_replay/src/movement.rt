@@ -22,6 +22,9 @@ pub(crate) fn moved(rate: &Frac, gap: &Frac, setting: &Frac, target: &Frac) -> F
     requires on_its_way { IsOnItsWay rate.now setting.now target.now }
     ensures { result ≡ setting_moved rate.now gap.now setting.now target.now }
 {
+    if rate.is_zero() {
+        return *target;
+    }
     if !Frac::zero().is_less(rate) {
         return *target;
     }

@@ -1,4 +1,5 @@
 //! How far a replay has come.
+use crate::hours::KnownHours;
 use exact_fraction::frac::Frac;
 use exact_fraction::moment::Moment;
 use rule_types::{LinkState, PidMemory, Stop};
@@ -20,6 +21,8 @@ pub struct Progress {
     /// The place of each controlled link among the tracked ones, and its setting.
     pub(crate) places: Vec<usize>,
     pub(crate) settings: Vec<Frac>,
+    /// The hours of gaps and timers.
+    pub(crate) known: KnownHours,
     pub(crate) start: Option<Moment>,
     pub(crate) last: Option<Moment>,
     pub(crate) due: Option<Moment>,

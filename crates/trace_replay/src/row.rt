@@ -61,9 +61,20 @@ pub(crate) fn take_row<R: Reads>(
     let start = start_at(progress.start, moment);
     let step = step_at(&rules.routing_step, progress.due, moment);
     let due = is_due(&rules.rule_step, progress.due, moment);
-    let gap = gap_at(&rules.routing_step, progress.last, moment);
+    let gap = gap_at(
+        &mut progress.known,
+        &rules.routing_step,
+        progress.last,
+        moment,
+    );
     progress.inputs.copy_from_slice(inputs);
-    set_timers(&mut progress.links, &progress.switches, start, moment);
+    set_timers(
+        &mut progress.links,
+        &progress.switches,
+        &mut progress.known,
+        start,
+        moment,
+    );
     let read = read_row(
         alloc,
         rules,

@@ -2,7 +2,6 @@
 ghost use Rattle.std.specs.Prelude.{◌≡◌, Some, if◌then◌else◌, length};
 ghost use Rattle.rule_meaning.specs.History.{stayed};
 ghost use Rattle.rule_meaning.specs.Replay.{is_switch as switched, switches_after};
-ghost use Rattle.exact_fraction.specs.Order.{same as same_number};
 
 use exact_fraction::frac::Frac;
 use exact_fraction::moment::Moment;
@@ -45,18 +44,14 @@ fn switch_after(
 }
 
 /// Whether a link is switched.
-#[tactic(auto, unfolding(rule_meaning::specs::Replay::is_switch))]
 fn is_switch(was: &Frac, now: &Frac) -> bool
     ensures { result ≡ switched was.now now.now }
 {
-    let zero = Frac::zero();
-    (is_same(was, &zero) && zero.is_less(now)) || (zero.is_less(was) && is_same(now, &zero))
-}
-
-/// Whether two are the same number.
-#[tactic(auto, unfolding(exact_fraction::specs::Order::same, exact_fraction::specs::Order::compares))]
-fn is_same(one: &Frac, other: &Frac) -> bool
-    ensures { result ≡ same_number one.now other.now }
-{
-    one.cmp(other).is_eq()
+    if was.is_zero() {
+        return Frac::zero().is_less(now);
+    }
+    if now.is_zero() {
+        return Frac::zero().is_less(was);
+    }
+    false
 }

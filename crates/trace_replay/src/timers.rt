@@ -3,26 +3,26 @@ ghost use Rattle.std.specs.Prelude.{◌≡◌, length};
 ghost use Rattle.rule_meaning.specs.History.{stayed};
 ghost use Rattle.rule_meaning.specs.Replay.{counted_from as begins, timer_at, links_at};
 
-use crate::hours::SharedHours;
+use crate::hours::KnownHours;
 use exact_fraction::frac::Frac;
 use exact_fraction::moment::Moment;
 use rule_types::LinkState;
 
 /// Sets the timer of each link to the hours since its last switch, or since the start where it was
-/// not switched yet; settings and targets stay. It takes no memory, and links with the same last
-/// switch share one division.
+/// not switched yet; settings and targets stay. It takes no memory, and divides only seconds that are
+/// not known in hours.
 pub(crate) fn set_timers(
     links: &mut [LinkState],
     switches: &[Option<Moment>],
+    known: &mut KnownHours,
     start: Moment,
     moment: Moment,
 )
     requires each { length switches.now ≡ length links.old }
     ensures links { links.new ≡ links_at start moment (stayed links.old) switches.now }
 {
-    let mut shared = SharedHours::new();
     for at in (0..links.len()).rev() {
-        let timer = timer_of(&mut shared, switches[at], start, moment);
+        let timer = timer_of(known, switches[at], start, moment);
         let old = &links[at];
         let link = LinkState {
             setting: old.setting,
@@ -34,10 +34,10 @@ pub(crate) fn set_timers(
 }
 
 /// The timer of a link.
-fn timer_of(shared: &mut SharedHours, switch: Option<Moment>, start: Moment, moment: Moment) -> Frac
+fn timer_of(known: &mut KnownHours, switch: Option<Moment>, start: Moment, moment: Moment) -> Frac
     ensures { result ≡ timer_at start switch moment }
 {
-    shared.hours_of(moment.seconds() - counted_from(start, switch).seconds())
+    known.hours_of(moment.seconds() - counted_from(start, switch).seconds())
 }
 
 /// The moment from which a timer counts.

@@ -1,12 +1,14 @@
 //! The start, the step and the gap of a row, and whether it is due.
-ghost use Rattle.std.specs.Prelude.{◌≡◌};
+ghost use Rattle.std.specs.Prelude.{◌≡◌, ◌<◌, ◌^◌, unsigned_abs};
+ghost use Rattle.exact_fraction.specs.Number.{whole as whole_number};
 ghost use Rattle.rule_types.specs.Fitting.{IsStep};
 ghost use Rattle.rule_meaning.specs.History.{is_due_after};
 ghost use Rattle.rule_meaning.specs.Replay.{start_or, step_since};
 ghost use Rattle.replay_meaning.specs.Kept.{gap_since};
 ghost use Rattle.trace_replay.specs.internal.Rows.{due_after};
 
-use clock_values::{hours_of, hours_of_step, whole};
+use crate::hours::KnownHours;
+use clock_values::{hours_of_step, whole};
 use exact_fraction::frac::Frac;
 use exact_fraction::moment::Moment;
 
@@ -25,7 +27,7 @@ pub(crate) fn step_at(routing_step: &Frac, due: Option<Moment>, moment: Moment) 
     ensures { result ≡ step_since routing_step.now due moment }
 {
     match due {
-        Some(last) => whole(moment.seconds() - last.seconds()),
+        Some(last) => whole_seconds(moment.seconds() - last.seconds()),
         None => *routing_step,
     }
 }
@@ -36,7 +38,7 @@ pub(crate) fn is_due(rule_step: &Frac, due: Option<Moment>, moment: Moment) -> b
     ensures { result ≡ is_due_after rule_step.now due moment }
 {
     match due {
-        Some(last) => !whole(moment.seconds() - last.seconds()).is_less(rule_step),
+        Some(last) => !whole_seconds(moment.seconds() - last.seconds()).is_less(rule_step),
         None => true,
     }
 }
@@ -53,12 +55,28 @@ pub(crate) fn last_due(is_due: bool, moment: Moment, due: Option<Moment>) -> Opt
 
 /// The hours since the last row, and the routing step before the first one.
 #[tactic(auto, unfolding(rule_meaning::specs::Condition::hours_of_step))]
-pub(crate) fn gap_at(routing_step: &Frac, last: Option<Moment>, moment: Moment) -> Frac
+pub(crate) fn gap_at(
+    known: &mut KnownHours,
+    routing_step: &Frac,
+    last: Option<Moment>,
+    moment: Moment,
+) -> Frac
     requires routing_step { IsStep routing_step.now }
     ensures { result ≡ gap_since routing_step.now last moment }
 {
     match last {
-        Some(last) => hours_of(moment.seconds() - last.seconds()),
+        Some(last) => known.hours_of(moment.seconds() - last.seconds()),
         None => hours_of_step(routing_step),
+    }
+}
+
+/// So many whole seconds, of which few are more than 32 bits hold.
+fn whole_seconds(seconds: i64) -> Frac
+    requires fits { unsigned_abs seconds < 2 ^ 63 }
+    ensures { result ≡ whole_number seconds }
+{
+    match i32::try_from(seconds) {
+        Ok(few) => Frac::whole(few),
+        Err(_) => whole(seconds),
     }
 }

@@ -16,7 +16,7 @@ use crate::complaints::{fault, row_stop};
 use command_outputs::{Complaint, TRACE_FILE};
 use exact_fraction::frac::Frac;
 use std::alloc::Global;
-use trace_csv::{Header, TraceCause, TraceEnd};
+use trace_csv::{Header, TraceCause, TraceEnd, WrittenMoment};
 use trace_replay::{Reads, Replay};
 
 /// Replays the rows on the lines behind a header, and counts the switches. `inputs` has room for
@@ -46,6 +46,7 @@ pub(crate) fn replay_rows<R: Reads>(
         (R.held replay.old.readings) header.now [] 2 (map (capped 65536) (lines_of lines.now))))
         (tally_with before.new) result }
 {
+    let mut written = WrittenMoment::epoch();
     let mut switches: u64 = 0;
     let mut number: u64 = 2;
     let mut rest = lines;
@@ -56,7 +57,16 @@ pub(crate) fn replay_rows<R: Reads>(
         let Some(line) = first.line else {
             return Err(fault(alloc, number, TraceCause::LineTooLong));
         };
-        match take_line(alloc, replay, header, inputs, before, number, line) {
+        match take_line(
+            alloc,
+            replay,
+            header,
+            &mut written,
+            inputs,
+            before,
+            number,
+            line,
+        ) {
             Ok(more) => switches += more,
             Err(complaint) => return Err(complaint),
         }
@@ -66,11 +76,13 @@ pub(crate) fn replay_rows<R: Reads>(
 }
 
 /// Takes a line behind the header: replays its row, if it has one, and counts the settings that
-/// changed. `before` holds the settings before the row, and then those after it.
+/// changed. `before` holds the settings before the row, and then those after it; `written` is best
+/// the moment of the row before.
 fn take_line<R: Reads>(
     alloc: Global,
     replay: &mut Replay<'_, R>,
     header: &Header,
+    written: &mut WrittenMoment,
     inputs: &mut [Option<Frac>],
     before: &mut [Frac],
     number: u64,
@@ -100,7 +112,7 @@ fn take_line<R: Reads>(
 {
     let rules = replay.rules();
     let last = replay.last();
-    match header.read_row(alloc, line, &last, &rules.start, inputs) {
+    match header.read_next_row(alloc, line, &last, &rules.start, written, inputs) {
         Ok(Some(moment)) => {
             // Its seconds lie in the years 1 to 9999, as those of a row have to.
             let _ = moment.seconds();

@@ -5,6 +5,8 @@ use Rattle.rule_types.specs.declared.condition.Condition.{Condition}
 use Rattle.rule_types.specs.declared.condition.Side.{Side}
 use Rattle.rule_types.specs.declared.rule.Rule.{Rule}
 use Rattle.rule_types.specs.declared.rules.Rules.{Rules}
+use Rattle.premise_eval.specs.declared.column.Column.{Column}
+use Rattle.premise_eval.specs.Columns.{IsColumn}
 use Rattle.table_plan.specs.declared.plan_column.PlanColumn.{PlanColumn}
 use Rattle.table_run.specs.Sides.{is_left_side}
 use Rattle.table_run.specs.declared.sources.ConditionAt.{ConditionAt}
@@ -32,12 +34,23 @@ NoLeftIn rules to side =
     (k : ℕ) (row : Rule) (j : ℕ) (c : Condition) → k < to → slice_get rules k ≡ Some row
     → slice_get row.conditions j ≡ Some c → c.left ≡ side → ⊥
 
--- A condition is the source of a column: it has the side of the column on its left. There is none
--- where no condition has that.
-abbrev pub IsSource : Rules → Side → Option ConditionAt → Type 0
-IsSource x side (Some at) = HasLeft x at side
-IsSource x side None = is_left_side x side ≡ false
+-- a condition has a side on its left, and there is none where no condition has it
+abbrev pub IsConditionOf : Rules → Side → Option ConditionAt → Type 0
+IsConditionOf x side (Some at) = HasLeft x at side
+IsConditionOf x side None = is_left_side x side ≡ false
 
-unfoldable pub AreSources : Rules → List PlanColumn → List (Option ConditionAt) → Type 0
-AreSources x columns sources =
-    AllZip (λ column source. IsSource x column.side source) columns sources
+-- the column of a number among those of values has a side that a condition has on its left
+pub record IsLeftColumn (x : Rules) (among : List Column) (at : ℕ) (side : Side) : Type 0 where
+  pub condition : ConditionAt
+  pub left : HasLeft x condition side
+  pub column : IsColumn among at side
+
+-- A column of values is the source of a column of a plan: it has its side, which a condition has on
+-- its left. There is none where no condition has that.
+abbrev pub IsSource : Rules → List Column → Side → Option ℕ → Type 0
+IsSource x among side (Some at) = IsLeftColumn x among at side
+IsSource x among side None = is_left_side x side ≡ false
+
+unfoldable pub AreSources : Rules → List Column → List PlanColumn → List (Option ℕ) → Type 0
+AreSources x among columns sources =
+    AllZip (λ column source. IsSource x among column.side source) columns sources

@@ -23,7 +23,7 @@ returns-clause-made c =
     let marks : c.args.values.now.used ≡ c.deref.result.now = ap (λ (k : Kept). k.used) (sym c.values.view_is) ∙ sym c.deref.ensures.value in
     let long : length c.read_state.new.values ≡ c.values.inside.values.len = search rules in
     record {
-      hours = c.hours_of_step-hours.ensures.value;
+      hours = c.hours_of-hours.ensures.value;
       columns =
           rw (with_items_is c.values.inside.values c.read_state.new.values long, ← c.deref-3.ensures.value)
           (c.in_default.ensures.made (is_used c.args.rules.now c.args.rules.now.rules)

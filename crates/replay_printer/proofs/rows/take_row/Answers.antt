@@ -10,7 +10,7 @@ use Rattle.replay_printer.proofs.rows.take_row.Goals as goal
 
 pub row-requires-clause-follows : goal.row-requires-clause-follows
 row-requires-clause-follows g c =
-    let row : Row = row_at c.in-Ok-Some.moment c.read_row.new.inputs in
+    let row : Row = row_at c.in-Ok-Some.moment c.read_next_row.new.inputs in
     let read : row_of c.args.header.now (kept_of c.args.replay.now.progress).last c.args.replay.now.rules.now.start c.args.line.now ≡ Ok (Some row) =
     read_by c.args.header.now c.args.line.now c.args.replay.now.rules.now c.rules-rules.result.now
     (kept_of c.args.replay.now.progress).last c.last-last.result (Ok (Some row)) c.rules-rules.ensures.rules c.last-last.ensures.last
@@ -20,7 +20,7 @@ row-requires-clause-follows g c =
 
 pub row_end-requires : goal.row_end-requires
 row_end-requires g c =
-    let row : Row = row_at c.in-Ok-Some.moment c.read_row.new.inputs in
+    let row : Row = row_at c.in-Ok-Some.moment c.read_next_row.new.inputs in
     let stopped : c.row.new.self.progress.stop ≡ Some (stop_in c.in-Err.stop) =
     stops c.args.replay.now.progress.stop c.row.new.self.progress.stop c.in-Err.stop c.requires.ready.going c.in-Err.ensures.answer in
     record {
@@ -32,10 +32,10 @@ row_end-requires g c =
           c.requires.ready.going c.row.ensures.kept stopped);
     }
 
-pub returns-in-Ok-write_row_line-clause-still_ready :
-    goal.returns-in-Ok-write_row_line-clause-still_ready
-returns-in-Ok-write_row_line-clause-still_ready g c =
-    let row : Row = row_at c.in-Ok-Some.moment c.read_row.new.inputs in
+pub returns-in-Ok-write_row_line_at-clause-still_ready :
+    goal.returns-in-Ok-write_row_line_at-clause-still_ready
+returns-in-Ok-write_row_line_at-clause-still_ready g c =
+    let row : Row = row_at c.in-Ok-Some.moment c.read_next_row.new.inputs in
     let read : row_of c.args.header.now (kept_of c.args.replay.now.progress).last c.args.replay.now.rules.now.start c.args.line.now ≡ Ok (Some row) =
     read_by c.args.header.now c.args.line.now c.args.replay.now.rules.now c.rules-rules.result.now
     (kept_of c.args.replay.now.progress).last c.last-last.result (Ok (Some row)) c.rules-rules.ensures.rules c.last-last.ensures.last

@@ -6,6 +6,6 @@ use Rattle.table_run.proofs.pieces.left_value.Goals as goal
 pub returns : goal.returns
 returns c = record {
   value = λ side h.
-      c.value_in.ensures.value ∙ ap (λ l. value_in l c.left_column-column.result) c.columns.ensures.value
-      ∙ left_read c.args.rules.now c.args.state.now c.args.values.now c.args.at.now side c.left_column-column.result c.requires.sound h c.left_column-column.ensures.column;
+      c.value_in.ensures.value ∙ ap (λ l. value_in l c.args.at) c.columns.ensures.value
+      ∙ left_read c.args.rules.now c.args.state.now c.args.values.now side c.args.at c.requires.sound h;
 }

@@ -9,14 +9,14 @@ use Rattle.table_run.proofs.pieces.read_pieces.Goals as goal
 
 pub bounds-sources-at : goal.bounds-sources-at
 bounds-sources-at c =
-    let long = sources_long c.args.rules.now c.args.columns.now c.args.sources.now c.requires.sources in
+    let long = sources_long c.args.rules.now c.args.values.now.columns c.args.columns.now c.args.sources.now c.requires.sources in
     omega (arith, long, c.loop-at-test.true)
 
 pub piece_read-piece-requires-clause-source : goal.piece_read-piece-requires-clause-source
 piece_read-piece-requires-clause-source c =
     let one = c.index-columns-at.result in
-    subst (λ (column : PlanColumn). IsSource c.args.rules.now column.side (get_or c.args.sources.now c.loop-at.at None)) (sym c.index-columns-at.is)
-    (source_at c.args.rules.now c.args.columns.now c.args.sources.now c.loop-at.at one None c.requires.sources c.loop-at-test.true)
+    subst (λ (column : PlanColumn). IsSource c.args.rules.now c.args.values.now.columns column.side (get_or c.args.sources.now c.loop-at.at None)) (sym c.index-columns-at.is)
+    (source_at c.args.rules.now c.args.values.now.columns c.args.columns.now c.args.sources.now c.loop-at.at one None c.requires.sources c.loop-at-test.true)
 
 pub loop-at-preserved : goal.loop-at-preserved
 loop-at-preserved c =

@@ -5,4 +5,4 @@ use Rattle.table_run.proofs.sources.sources.Given as goal
 
 abbrev pub invariant-loop-column : goal.invariant-loop-column
 invariant-loop-column l =
-    AllZip (λ column source. IsSource l.rules column.side source) (take l.column-index l.columns) l.sources.items
+    AllZip (λ column source. IsSource l.rules l.values.columns column.side source) (take l.column-index l.columns) l.sources.items

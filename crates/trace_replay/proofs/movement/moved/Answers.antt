@@ -3,7 +3,12 @@ use Rattle.exact_fraction.specs.Number.{zero}
 use Rattle.exact_fraction.specs.Order.{less}
 use Rattle.exact_fraction.proofs.PublicLaws.{tests-less}
 use Rattle.trace_replay.proofs.Reaching.{far_target}
+use Rattle.trace_replay.proofs.Zeros.{at_once}
 use Rattle.trace_replay.proofs.movement.moved.Goals as goal
+
+pub returns-then-is_zero : goal.returns-then-is_zero
+returns-then-is_zero c =
+    at_once c.args.rate.now c.args.gap.now c.args.setting.now c.args.target.now (sym c.is_zero.ensures.value ∙ c.if-is_zero.true)
 
 pub returns-then-not-is_less-2 : goal.returns-then-not-is_less-2
 returns-then-not-is_less-2 c =

@@ -1,4 +1,4 @@
-use Rattle.std.proofs.Common.{◌≡◌, ◌+◌, Some, None, Ok, Err, List, ap, sym, ◌∙◌, subst}
+use Rattle.std.proofs.Common.{◌≡◌, ◌+◌, Some, None, Ok, List, ap, sym, ◌∙◌, subst}
 use Rattle.rule_types.specs.declared.names.NameDef.{NameDef}
 use Rattle.rule_types.specs.declared.row.Row.{Row}
 use Rattle.rule_types.specs.declared.rules.Rules.{Rules}
@@ -16,7 +16,7 @@ use Rattle.trace_tally.proofs.rows.take_line.Goals as goal
 
 pub row-requires-clause-follows : goal.row-requires-clause-follows
 row-requires-clause-follows g c =
-    let row : Row = row_at c.in-Ok-Some.moment c.read_row.new.inputs in
+    let row : Row = row_at c.in-Ok-Some.moment c.read_next_row.new.inputs in
     let read : row_of c.args.header.now (kept_of c.args.replay.now.progress).last c.args.replay.now.rules.now.start c.args.line.now ≡ Ok (Some row) =
     read_by c.args.header.now c.args.line.now c.args.replay.now.rules.now c.rules-rules.result.now
     (kept_of c.args.replay.now.progress).last c.last-last.result (Ok (Some row)) c.rules-rules.ensures.rules c.last-last.ensures.last
@@ -26,7 +26,7 @@ row-requires-clause-follows g c =
 
 pub returns-in-Err-clause-takes : goal.returns-in-Err-clause-takes
 returns-in-Err-clause-takes g c = λ switches file due t.
-    let row : Row = row_at c.in-Ok-Some.moment c.read_row.new.inputs in
+    let row : Row = row_at c.in-Ok-Some.moment c.read_next_row.new.inputs in
     let read : row_of c.args.header.now (kept_of c.args.replay.now.progress).last c.args.replay.now.rules.now.start c.args.line.now ≡ Ok (Some row) =
     read_by c.args.header.now c.args.line.now c.args.replay.now.rules.now c.rules-rules.result.now
     (kept_of c.args.replay.now.progress).last c.last-last.result (Ok (Some row)) c.rules-rules.ensures.rules c.last-last.ensures.last
@@ -57,7 +57,7 @@ copy_from_slice-requires g c =
 
 pub returns-in_default-clause-takes : goal.returns-in_default-clause-takes
 returns-in_default-clause-takes g c = λ switches file due t.
-    let row : Row = row_at c.in-Ok-Some.moment c.read_row.new.inputs in
+    let row : Row = row_at c.in-Ok-Some.moment c.read_next_row.new.inputs in
     let read : row_of c.args.header.now (kept_of c.args.replay.now.progress).last c.args.replay.now.rules.now.start c.args.line.now ≡ Ok (Some row) =
     read_by c.args.header.now c.args.line.now c.args.replay.now.rules.now c.rules-rules.result.now
     (kept_of c.args.replay.now.progress).last c.last-last.result (Ok (Some row)) c.rules-rules.ensures.rules c.last-last.ensures.last

@@ -6,3 +6,6 @@ all_pairs-requires-clause-columns c = none_fit c.args.rules.now _ c.new-columns.
 
 pub hours_of_step-requires : goal.hours_of_step-requires
 hours_of_step-requires c = record { step = step_is c.args.rules.now c.requires.well_formed }
+
+pub of_step-requires : goal.of_step-requires
+of_step-requires c = record { step = step_is c.args.rules.now c.requires.well_formed }

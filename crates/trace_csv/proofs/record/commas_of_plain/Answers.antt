@@ -1,0 +1,6 @@
+use Rattle.std.proofs.Common.{arith}
+use Rattle.trace_csv.proofs.Commas.{counted}
+use Rattle.trace_csv.proofs.record.commas_of_plain.Goals as goal
+
+pub returns-clause-count : goal.returns-clause-count
+returns-clause-count c = counted c.args.text.now c.loop-byte.count c.loop-byte.byte-index (omega arith) c.loop-byte.invariant.count

@@ -1,0 +1,11 @@
+use Rattle.std.proofs.Common.{◌≡◌, ◌≤◌, ◌==◌, take, true}
+use Rattle.std.specs.List.{count_by, list_all}
+use Rattle.trace_csv.specs.Records.{comma, is_plain}
+use Rattle.trace_csv.proofs.record.plain_commas.Given as goal
+
+abbrev pub invariant-loop-byte : goal.invariant-loop-byte
+invariant-loop-byte l = record {
+  count : l.count ≡ count_by (λ byte. byte == comma) (take l.byte-index l.line);
+  plain : list_all is_plain (take l.byte-index l.line) ≡ true;
+  small : l.count ≤ l.byte-index;
+}
