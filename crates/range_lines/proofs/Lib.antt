@@ -5,3 +5,6 @@ pub mod Firsts
 pub mod Asked
 pub mod Texts
 pub mod LineSteps
+pub mod FitLines
+pub mod Prepared
+pub mod PublicLaws

@@ -8,6 +8,7 @@ mod fault;
 mod given;
 mod key_ranges;
 mod known;
+pub mod laws;
 mod link_set;
 mod needs;
 mod place;

@@ -8,6 +8,8 @@ ghost use Rattle.range_lines.specs.Lines.{unread_start as start_of_time};
 ghost use Rattle.range_lines.specs.Needs.{needs_fault, key_fault};
 ghost use Rattle.range_lines.specs.declared.fault.RangeEnd.TheVariants as end;
 ghost use Rattle.range_lines.specs.internal.Views.{known_now, end_of};
+ghost use Rattle.rule_types.specs.WellFormed.{WellFormed};
+ghost use Rattle.verdict_meaning.specs.FitRanges.{RangesFit};
 
 use crate::fault::{RangeCause, RangeEnd};
 use crate::given::Given;
@@ -38,6 +40,7 @@ pub fn read_ranges(
     objects: &ObjectIndex,
 ) -> Result<Ranges, RangeEnd>
     ensures file { Reads (ranges_in rules.now objects.now lines.now) result }
+    ensures fit { WellFormed rules.now → IfOk result (λ ranges. RangesFit rules.now ranges) }
 {
     const MOST: u64 = 1 << 32;
     if rules.rules.len() as u64 >= MOST {

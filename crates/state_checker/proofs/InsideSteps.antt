@@ -25,21 +25,10 @@ use Rattle.verdict_meaning.specs.declared.ranges.Ranges.{Ranges}
 use Rattle.verdict_meaning.specs.Boxes.{HasKey, IsEntryOf, IsInRanges, IsMomentIn, IsTargetIn, IsTimer, first_box}
 use Rattle.verdict_meaning.specs.Grids.{sample_memory}
 use Rattle.verdict_meaning.specs.Premises.{start_of}
-use Rattle.state_checker.specs.internal.Inside.{LiesInside, entry_fits, is_at, is_in_moments, is_target_in, is_timer, target_fits, value_fits}
+use Rattle.state_checker.proofs.FitSteps.{both, first_of, second_of}
+use Rattle.state_checker.specs.Inside.{LiesInside, entry_fits, is_at, is_in_moments, is_target_in, is_timer, target_fits, value_fits}
 
--- ---- tests of two and of all
-
-both : (a b : Bool) → a ≡ true → b ≡ true → (a && b) ≡ true
-both true b e f = f
-both false b e f = e
-
-first_of : (a b : Bool) → (a && b) ≡ true → a ≡ true
-first_of true b e = refl
-first_of false b e = e
-
-second_of : (a b : Bool) → (a && b) ≡ true → b ≡ true
-second_of true b e = e
-second_of false b e = absurd (grind arith)
+-- ---- tests of all
 
 all_by : {A : Type 0} (p : A → Bool) (P : A → Type 0) → ((a : A) → p a ≡ true → P a)
     → (xs : List A) → list_all p xs ≡ true → All P xs

@@ -1,8 +1,10 @@
 pub mod AskedSteps
+pub mod FitSteps
 pub mod InsideSteps
 pub mod KeySteps
 pub mod LinkSteps
 pub mod ListSteps
+pub mod PublicLaws
 pub mod SettledSteps
 pub mod SideSteps
 pub mod WitnessSteps

@@ -1,2 +1,4 @@
+pub mod Fits
+pub mod Inside
 pub mod Witnesses
 pub mod internal

@@ -2,7 +2,7 @@
 ghost use Rattle.std.specs.Prelude.{◌≡◌, ◌↔◌, ◌&&◌, IsTrue, int_le};
 ghost use Rattle.rule_types.specs.WellFormed.{WellFormed};
 ghost use Rattle.verdict_meaning.specs.Premises.{start_of};
-ghost use Rattle.state_checker.specs.internal.Inside.{is_at, is_in_moments};
+ghost use Rattle.state_checker.specs.Inside.{is_at, is_in_moments};
 
 use box_truths::times_of;
 use exact_fraction::moment::Moment;
@@ -18,7 +18,7 @@ pub(crate) fn has_step(rules: &Rules, state: &State) -> bool
 
 /// Whether the moment of a state lies between the first and the last one of a box, and the state
 /// starts where the rules do, where the box has moments.
-#[tactic(auto, unfolding(crate::specs::internal::Inside::is_in_moments))]
+#[tactic(auto, unfolding(crate::specs::Inside::is_in_moments))]
 pub(crate) fn is_in_moments(rules: &Rules, cell: &Cell, state: &State) -> bool
     requires formed { WellFormed rules.now }
     ensures value { result ≡ is_in_moments (start_of rules.now) cell.now.moments state.now }

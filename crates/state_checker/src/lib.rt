@@ -5,6 +5,8 @@ mod asked;
 mod checking;
 mod clock;
 mod events;
+mod fits;
+pub mod laws;
 mod limits;
 mod links;
 mod lists;
@@ -13,4 +15,4 @@ mod settled;
 mod values;
 mod worth;
 
-pub use checking::check_state;
+pub use checking::{check_state, is_witness};

@@ -3,8 +3,8 @@ ghost use Rattle.std.specs.Prelude.{◌≡◌, ◌↔◌, IsTrue};
 ghost use Rattle.std.specs.List.{list_all};
 ghost use Rattle.rule_types.specs.Fitting.{FitsRules};
 ghost use Rattle.rule_types.specs.WellFormed.{WellFormed};
-ghost use Rattle.state_checker.specs.internal.Inside.{LiesInside, entry_fits, is_target_in};
-ghost use Rattle.state_checker.specs.internal.Inside.{is_timer, value_fits};
+ghost use Rattle.state_checker.specs.Inside.{LiesInside, entry_fits, is_target_in};
+ghost use Rattle.state_checker.specs.Inside.{is_timer, value_fits};
 
 use crate::clock::{has_step, is_in_moments};
 use crate::links::link_state;
@@ -44,7 +44,7 @@ fn entries_fit(rules: &Rules, keys: &[(Key, Interval)], state: &State) -> bool
 }
 
 /// The same of one key.
-#[tactic(auto, unfolding(crate::specs::internal::Inside::entry_fits))]
+#[tactic(auto, unfolding(crate::specs::Inside::entry_fits))]
 fn entry_fits(rules: &Rules, entry: &(Key, Interval), state: &State) -> bool
     requires formed { WellFormed rules.now }
     requires fits { FitsRules rules.now state.now }

@@ -1,5 +1,5 @@
 -- The commands of the tool, and what each comes to, over what is held under the names of files.
-use Rattle.std.specs.Prelude.{ℕ, ◌&&◌, nat_le, if◌then◌else◌, List, [], ◌∷◌, codes}
+use Rattle.std.specs.Prelude.{ℕ, ◌&&◌, nat_le, if◌then◌else◌, List, [], ◌∷◌, ◌++◌, codes}
 use Rattle.std.specs.Prelude.{Option, None, Some, option_map, option_and_then}
 use Rattle.std.specs.Str.{bytes_eq}
 use Rattle.command_outputs.specs.Outcomes.{Outcome, usage_outcome}
@@ -9,12 +9,14 @@ use Rattle.num_text.specs.Counts.{count_of}
 use Rattle.project_commands.specs.Checks.{check_roles, check_outcome}
 use Rattle.project_commands.specs.Replays.{replay_roles, replay_outcome}
 use Rattle.project_commands.specs.Tables.{tables_roles, tables_outcome}
+use Rattle.verdict_commands.specs.Verifies.{verify_roles, verify_outcome}
 
 -- a command with the names of its files, or with the number of pumps of a generated model
 pub data CommandLine : Type 0 where
   Check : List ℕ → CommandLine
   Tables : List ℕ → CommandLine
   Replay : List ℕ → List ℕ → CommandLine
+  Verify : List ℕ → List ℕ → List ℕ → CommandLine
   Generate : ℕ → CommandLine
 
 -- the number of pumps of a generated model: a count from 1 to 1,000
@@ -36,23 +38,32 @@ abbrev pub with_two : List ℕ → List ℕ → List ℕ → Option CommandLine
 with_two word first second =
     if bytes_eq word (codes "replay") then Some (Replay first second) else None
 
+-- the command of a word and the names of three files
+abbrev pub with_three : List ℕ → List ℕ → List ℕ → List ℕ → Option CommandLine
+with_three word first second third =
+    if bytes_eq word (codes "verify") then Some (Verify first second third) else None
+
 -- the command that these words are
 abbrev pub command_of : List (List ℕ) → Option CommandLine
 command_of [] = None
 command_of (word ∷ []) = None
 command_of (word ∷ input ∷ []) = with_one word input
 command_of (word ∷ first ∷ second ∷ []) = with_two word first second
-command_of (word ∷ first ∷ second ∷ more ∷ rest) = None
+command_of (word ∷ first ∷ second ∷ third ∷ []) = with_three word first second third
+command_of (word ∷ first ∷ second ∷ third ∷ more ∷ rest) = None
 
 -- what is said of words that are no command
 abbrev pub usage_text : List ℕ
-usage_text = codes "usage: check IN\n       tables IN\n       replay IN TRACE\n       gen N\n"
+usage_text =
+    codes "usage: check IN\n       tables IN\n       replay IN TRACE\n"
+    ++ codes "       verify IN RANGES REPORT\n       gen N\n"
 
 -- what the files of a command are, in the order of their slots
 abbrev pub roles_of : CommandLine → List Role
 roles_of (Check input) = check_roles
 roles_of (Tables input) = tables_roles
 roles_of (Replay input trace) = replay_roles
+roles_of (Verify input ranges report) = verify_roles
 roles_of (Generate pumps) = gen_roles
 
 -- what a command comes to
@@ -60,6 +71,7 @@ abbrev pub outcome : (List ℕ → Option (List ℕ)) → CommandLine → Option
 outcome held (Check input) = check_outcome held input
 outcome held (Tables input) = tables_outcome held input
 outcome held (Replay input trace) = replay_outcome held input trace
+outcome held (Verify input ranges report) = verify_outcome held input ranges report
 outcome held (Generate pumps) = gen_outcome pumps
 
 -- the same of the words of a run

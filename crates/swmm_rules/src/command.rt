@@ -2,7 +2,7 @@
 ghost use Rattle.std.specs.Prelude.{◌≡◌, ◌≤◌, IfSome, MatchOption};
 ghost use Rattle.std.specs.Prelude.{None, Some, map, option_map, string_bytes};
 ghost use Rattle.swmm_rules.specs.Commands.{Generate, command_of, in_bounds, pumps_of};
-ghost use Rattle.swmm_rules.specs.Commands.{with_one, with_two, usage_text};
+ghost use Rattle.swmm_rules.specs.Commands.{with_one, with_two, with_three, usage_text};
 ghost use Rattle.swmm_rules.specs.Words.{line_of, IsInBounds};
 
 use num_text::counts::read_count;
@@ -11,13 +11,28 @@ use num_text::counts::read_count;
 #[derive(Clone, Copy)]
 pub enum Command<'a> {
     /// `check IN`
-    Check { input: &'a str },
+    Check {
+        input: &'a str,
+    },
     /// `tables IN`
-    Tables { input: &'a str },
+    Tables {
+        input: &'a str,
+    },
     /// `replay IN TRACE`
-    Replay { input: &'a str, trace: &'a str },
+    Replay {
+        input: &'a str,
+        trace: &'a str,
+    },
+    /// `verify IN RANGES REPORT`
+    Verify {
+        input: &'a str,
+        ranges: &'a str,
+        report: &'a str,
+    },
     /// `gen N`
-    Generate { pumps: u32 },
+    Generate {
+        pumps: u32,
+    },
 }
 
 /// The command that these words are; None where they are no command.
@@ -29,6 +44,12 @@ pub fn command_of(words: &[String]) -> Option<Command<'_>>
     match words {
         [word, next] => with_one(word.as_str(), next.as_str()),
         [word, first, second] => with_two(word.as_str(), first.as_str(), second.as_str()),
+        [word, first, second, third] => with_three(
+            word.as_str(),
+            first.as_str(),
+            second.as_str(),
+            third.as_str(),
+        ),
         _ => None,
     }
 }
@@ -100,9 +121,33 @@ fn with_two<'a>(word: &str, first: &'a str, second: &'a str) -> Option<Command<'
     None
 }
 
+/// A command on three files.
+fn with_three<'a>(
+    word: &str,
+    first: &'a str,
+    second: &'a str,
+    third: &'a str,
+) -> Option<Command<'a>>
+    ensures value { MatchOption result
+        (with_three word.now first.now second.now third.now ≡ None)
+        (λ command. with_three word.now first.now second.now third.now
+        ≡ Some (line_of command)) }
+    ensures bounds { IfSome result IsInBounds }
+{
+    if word == "verify" {
+        return Some(Command::Verify {
+            input: first,
+            ranges: second,
+            report: third,
+        });
+    }
+    None
+}
+
 /// What is said of words that are no command.
 pub fn usage_text() -> &'static [u8]
     ensures value { result.now ≡ usage_text }
 {
-    b"usage: check IN\n       tables IN\n       replay IN TRACE\n       gen N\n"
+    b"usage: check IN\n       tables IN\n       replay IN TRACE\n       \
+      verify IN RANGES REPORT\n       gen N\n"
 }

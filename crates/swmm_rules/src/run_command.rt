@@ -13,6 +13,7 @@ use command_outputs::{Complaint, Completion, Status, conclude, tell};
 use generated_replay::generate;
 use project_commands::{check, replay, tables};
 use std::alloc::Global;
+use verdict_commands::verify;
 
 /// Runs the tool: the command that the words are, over the files of these names; words that are no
 /// command are answered with the usage.
@@ -82,6 +83,11 @@ fn perform<F: Files, O: Sink>(
         Command::Check { input } => check(alloc, input, files, out),
         Command::Tables { input } => tables(alloc, input, files, out),
         Command::Replay { input, trace } => replay(alloc, input, trace, files, out),
+        Command::Verify {
+            input,
+            ranges,
+            report,
+        } => verify(alloc, input, ranges, report, files, out),
         Command::Generate { pumps } => generate(alloc, pumps, files, out),
     }
 }

@@ -57,8 +57,8 @@ impl<'a, S: Sink + Drop> Sink for LoggedSink<'a, S> {
     }
 }
 
-/// An input file of a pump and a rule, which takes seven reads, and a trace of a header and three
-/// rows of 22 bytes each.
+/// An input file of a pump and a rule, which takes seven reads; a trace of a header and three rows
+/// of 22 bytes each; ranges, and a report of a state in which the rule acts.
 fn files(alloc: Global) -> Result<MemoryFiles, NoMemory> {
     let mut held = Vec::new(alloc);
     let input = Vec::from_slice(
@@ -71,13 +71,21 @@ fn files(alloc: Global) -> Result<MemoryFiles, NoMemory> {
         b"moment, NODE N1 DEPTH\n2001-06-15T00:00:00,4\n2001-06-15T00:05:00,6\n\
           2001-06-15T00:10:00,5\n",
     )?;
+    let ranges = Vec::from_slice(alloc, b"NODE N1 DEPTH 0 10\n")?;
+    let report = Vec::from_slice(
+        alloc,
+        b"report 1\nquestion dead 1\nrefuted\nvalue NODE N1 DEPTH 6\nend\n",
+    )?;
     held.push((String::from_str(alloc, "in")?, input))?;
     held.push((String::from_str(alloc, "trace")?, trace))?;
+    held.push((String::from_str(alloc, "ranges")?, ranges))?;
+    held.push((String::from_str(alloc, "report")?, report))?;
     Ok(MemoryFiles::new(held, 22, Vec::new(alloc)))
 }
 
 /// What is said of words that are no command.
-const USAGE: &[u8] = b"usage: check IN\n       tables IN\n       replay IN TRACE\n       gen N\n";
+const USAGE: &[u8] = b"usage: check IN\n       tables IN\n       replay IN TRACE\n       \
+                      verify IN RANGES REPORT\n       gen N\n";
 
 /// What the replay of the rule over the rows prints.
 const REPLAYED: &[u8] = b"moment,P1\n2001-06-15T00:00:00,0\n2001-06-15T00:05:00,1\n\
@@ -121,7 +129,7 @@ fn rows_are_written_before_the_next_read(rt: HostRuntime) -> Result<(), Fail> {
 fn check_counts_and_other_words_are_the_usage(rt: HostRuntime) -> Result<(), Fail> {
     let alloc = rt.alloc();
     let mut out = MemorySink::new(alloc, 100, 100, Vec::new(alloc))?;
-    let mut err = MemorySink::new(alloc, 100, 100, Vec::new(alloc))?;
+    let mut err = MemorySink::new(alloc, 120, 120, Vec::new(alloc))?;
     let checked = words(alloc, &["check", "in"])?;
     let status = run(alloc, &checked, &mut files(alloc)?, &mut out, &mut err);
     assert!(rt; status == Status::Done);
@@ -130,5 +138,19 @@ fn check_counts_and_other_words_are_the_usage(rt: HostRuntime) -> Result<(), Fai
     let status = run(alloc, &other, &mut files(alloc)?, &mut out, &mut err);
     assert!(rt; status == Status::Usage);
     assert!(rt; err.written() == USAGE);
+    Ok(())
+}
+
+/// The rule acts in a state of the ranges, so it is not dead.
+#[test]
+fn verify_counts_the_entries_of_a_report(rt: HostRuntime) -> Result<(), Fail> {
+    let alloc = rt.alloc();
+    let mut out = MemorySink::new(alloc, 100, 100, Vec::new(alloc))?;
+    let mut err = MemorySink::new(alloc, 100, 100, Vec::new(alloc))?;
+    let words = words(alloc, &["verify", "in", "ranges", "report"])?;
+    let status = run(alloc, &words, &mut files(alloc)?, &mut out, &mut err);
+    assert!(rt; status == Status::Refuted);
+    assert!(rt; out.written() == b"verified holds 0 refuted 1 undecided 0\n".as_slice());
+    assert!(rt; err.written().is_empty());
     Ok(())
 }

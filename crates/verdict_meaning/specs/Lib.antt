@@ -5,6 +5,7 @@ pub mod Certificates
 pub mod ClockHulls
 pub mod Events
 pub mod Examples
+pub mod FitRanges
 pub mod Grids
 pub mod Hulls
 pub mod Premises

@@ -1,6 +1,6 @@
 use Rattle.std.proofs.Common.{◌≡◌, length}
 use Rattle.std.specs.List.{list_all}
-use Rattle.state_checker.specs.internal.Inside.{entry_fits}
+use Rattle.state_checker.specs.Inside.{entry_fits}
 use Rattle.state_checker.proofs.ranges.entries_fit.Given as goal
 
 abbrev pub invariant-keys : goal.invariant-keys

@@ -48,3 +48,7 @@ returns-in-Some-clause-counts g c =
     rw c.in-Some.ensures.value (c.conclude.ensures.counts (roles_of line)
     (outcome (g.F.Files.held c.args.files.now) line) c.args.files.now c.perform-answer.new.files
     c.args.out.now c.perform-answer.new.out c.perform-answer.ensures.performs)
+
+pub returns-in-Some-clause-unchanged : goal.returns-in-Some-clause-unchanged
+returns-in-Some-clause-unchanged g c =
+    rw c.in-Some.ensures.value c.perform-answer.ensures.performs.unchanged

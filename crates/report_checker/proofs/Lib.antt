@@ -1,0 +1,4 @@
+pub mod AcceptedEntries
+pub mod AcceptedReports
+pub mod JudgedSteps
+pub mod PublicLaws

@@ -1,0 +1,4 @@
+-- What the commands on an input file and ranges come to.
+pub mod Faults
+pub mod Preparing
+pub mod Verifies

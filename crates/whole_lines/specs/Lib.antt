@@ -1,0 +1,2 @@
+-- The lines of a file.
+pub mod Reading
