@@ -20,10 +20,11 @@ use rule_types::{Rules, State};
 use std::alloc::Global;
 use verdict_meaning::Question;
 
-/// Whether a state has a question's event, where each PID action has the memory 0. A state at which
-/// a name stops that the question's rules use has no event.
+/// Whether a state that fits the rules has a question's event, where each PID action has the memory
+/// 0. A state at which a name stops that the question's rules use has no event. NoMemory is the one
+/// error.
 #[tactic(auto, unfolding(verdict_meaning::specs::Events::has_event))]
-pub(crate) fn has_event(
+pub fn has_event(
     alloc: Global,
     rules: &Rules,
     tables: &Tables,

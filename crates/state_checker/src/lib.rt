@@ -16,3 +16,4 @@ mod values;
 mod worth;
 
 pub use checking::{check_state, is_witness};
+pub use events::has_event;

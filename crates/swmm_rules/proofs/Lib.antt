@@ -1,2 +1,3 @@
 -- Lemmas of this crate, over plain values.
+pub mod RunVerdicts
 pub mod Usages

@@ -9,13 +9,16 @@ use Rattle.num_text.specs.Counts.{count_of}
 use Rattle.project_commands.specs.Checks.{check_roles, check_outcome}
 use Rattle.project_commands.specs.Replays.{replay_roles, replay_outcome}
 use Rattle.project_commands.specs.Tables.{tables_roles, tables_outcome}
+use Rattle.verdict_commands.specs.Proves.{prove_roles, prove_outcome}
 use Rattle.verdict_commands.specs.Verifies.{verify_roles, verify_outcome}
+use Rattle.verdict_meaning.specs.declared.verdict.Verdict.{Verdict}
 
 -- a command with the names of its files, or with the number of pumps of a generated model
 pub data CommandLine : Type 0 where
   Check : List ℕ → CommandLine
   Tables : List ℕ → CommandLine
   Replay : List ℕ → List ℕ → CommandLine
+  Prove : List ℕ → List ℕ → CommandLine
   Verify : List ℕ → List ℕ → List ℕ → CommandLine
   Generate : ℕ → CommandLine
 
@@ -36,7 +39,8 @@ with_one word next =
 -- the command of a word and the names of two files
 abbrev pub with_two : List ℕ → List ℕ → List ℕ → Option CommandLine
 with_two word first second =
-    if bytes_eq word (codes "replay") then Some (Replay first second) else None
+    if bytes_eq word (codes "replay") then Some (Replay first second)
+    else (if bytes_eq word (codes "prove") then Some (Prove first second) else None)
 
 -- the command of a word and the names of three files
 abbrev pub with_three : List ℕ → List ℕ → List ℕ → List ℕ → Option CommandLine
@@ -56,29 +60,33 @@ command_of (word ∷ first ∷ second ∷ third ∷ more ∷ rest) = None
 abbrev pub usage_text : List ℕ
 usage_text =
     codes "usage: check IN\n       tables IN\n       replay IN TRACE\n"
-    ++ codes "       verify IN RANGES REPORT\n       gen N\n"
+    ++ codes "       prove IN RANGES\n       verify IN RANGES REPORT\n       gen N\n"
 
 -- what the files of a command are, in the order of their slots
 abbrev pub roles_of : CommandLine → List Role
 roles_of (Check input) = check_roles
 roles_of (Tables input) = tables_roles
 roles_of (Replay input trace) = replay_roles
+roles_of (Prove input ranges) = prove_roles
 roles_of (Verify input ranges report) = verify_roles
 roles_of (Generate pumps) = gen_roles
 
--- what a command comes to
-abbrev pub outcome : (List ℕ → Option (List ℕ)) → CommandLine → Option Outcome
-outcome held (Check input) = check_outcome held input
-outcome held (Tables input) = tables_outcome held input
-outcome held (Replay input trace) = replay_outcome held input trace
-outcome held (Verify input ranges report) = verify_outcome held input ranges report
-outcome held (Generate pumps) = gen_outcome pumps
+-- What a command comes to, where these are the verdicts of the questions that it asks: `prove`
+-- alone asks some.
+abbrev pub outcome : (List ℕ → Option (List ℕ)) → List Verdict → CommandLine → Option Outcome
+outcome held verdicts (Check input) = check_outcome held input
+outcome held verdicts (Tables input) = tables_outcome held input
+outcome held verdicts (Replay input trace) = replay_outcome held input trace
+outcome held verdicts (Prove input ranges) = prove_outcome held input ranges verdicts
+outcome held verdicts (Verify input ranges report) = verify_outcome held input ranges report
+outcome held verdicts (Generate pumps) = gen_outcome pumps
 
 -- the same of the words of a run
 abbrev pub roles_of_words : Option CommandLine → List Role
 roles_of_words None = []
 roles_of_words (Some command) = roles_of command
 
-abbrev pub outcome_of_words : (List ℕ → Option (List ℕ)) → Option CommandLine → Option Outcome
-outcome_of_words held None = Some (usage_outcome usage_text)
-outcome_of_words held (Some command) = outcome held command
+abbrev pub outcome_of_words : (List ℕ → Option (List ℕ)) → List Verdict → Option CommandLine
+    → Option Outcome
+outcome_of_words held verdicts None = Some (usage_outcome usage_text)
+outcome_of_words held verdicts (Some command) = outcome held verdicts command

@@ -23,6 +23,11 @@ pub enum Command<'a> {
         input: &'a str,
         trace: &'a str,
     },
+    /// `prove IN RANGES`
+    Prove {
+        input: &'a str,
+        ranges: &'a str,
+    },
     /// `verify IN RANGES REPORT`
     Verify {
         input: &'a str,
@@ -118,6 +123,12 @@ fn with_two<'a>(word: &str, first: &'a str, second: &'a str) -> Option<Command<'
             trace: second,
         });
     }
+    if word == "prove" {
+        return Some(Command::Prove {
+            input: first,
+            ranges: second,
+        });
+    }
     None
 }
 
@@ -149,5 +160,5 @@ pub fn usage_text() -> &'static [u8]
     ensures value { result.now ≡ usage_text }
 {
     b"usage: check IN\n       tables IN\n       replay IN TRACE\n       \
-      verify IN RANGES REPORT\n       gen N\n"
+      prove IN RANGES\n       verify IN RANGES REPORT\n       gen N\n"
 }

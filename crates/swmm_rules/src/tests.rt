@@ -85,11 +85,14 @@ fn files(alloc: Global) -> Result<MemoryFiles, NoMemory> {
 
 /// What is said of words that are no command.
 const USAGE: &[u8] = b"usage: check IN\n       tables IN\n       replay IN TRACE\n       \
-                      verify IN RANGES REPORT\n       gen N\n";
+                      prove IN RANGES\n       verify IN RANGES REPORT\n       gen N\n";
 
 /// What the replay of the rule over the rows prints.
 const REPLAYED: &[u8] = b"moment,P1\n2001-06-15T00:00:00,0\n2001-06-15T00:05:00,1\n\
                           2001-06-15T00:10:00,0\n";
+
+/// The report of the one question of the ranges.
+const PROVED: &[u8] = b"report 2\nquestion dead 1\nrefuted\nvalue NODE N1 DEPTH 0\nend\n";
 
 /// The words of a command.
 fn words(alloc: Global, texts: &[&str]) -> Result<Vec<String>, NoMemory> {
@@ -129,7 +132,7 @@ fn rows_are_written_before_the_next_read(rt: HostRuntime) -> Result<(), Fail> {
 fn check_counts_and_other_words_are_the_usage(rt: HostRuntime) -> Result<(), Fail> {
     let alloc = rt.alloc();
     let mut out = MemorySink::new(alloc, 100, 100, Vec::new(alloc))?;
-    let mut err = MemorySink::new(alloc, 120, 120, Vec::new(alloc))?;
+    let mut err = MemorySink::new(alloc, 140, 140, Vec::new(alloc))?;
     let checked = words(alloc, &["check", "in"])?;
     let status = run(alloc, &checked, &mut files(alloc)?, &mut out, &mut err);
     assert!(rt; status == Status::Done);
@@ -138,6 +141,20 @@ fn check_counts_and_other_words_are_the_usage(rt: HostRuntime) -> Result<(), Fai
     let status = run(alloc, &other, &mut files(alloc)?, &mut out, &mut err);
     assert!(rt; status == Status::Usage);
     assert!(rt; err.written() == USAGE);
+    Ok(())
+}
+
+/// At the lowest depth the rule acts by its ELSE, so it is not dead.
+#[test]
+fn prove_writes_the_report_of_the_questions(rt: HostRuntime) -> Result<(), Fail> {
+    let alloc = rt.alloc();
+    let mut out = MemorySink::new(alloc, 100, 100, Vec::new(alloc))?;
+    let mut err = MemorySink::new(alloc, 100, 100, Vec::new(alloc))?;
+    let words = words(alloc, &["prove", "in", "ranges"])?;
+    let status = run(alloc, &words, &mut files(alloc)?, &mut out, &mut err);
+    assert!(rt; status == Status::Refuted);
+    assert!(rt; out.written() == PROVED);
+    assert!(rt; err.written().is_empty());
     Ok(())
 }
 

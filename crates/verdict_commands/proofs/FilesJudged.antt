@@ -1,6 +1,6 @@
 -- A file as a stage: its lines are read, and then judged.
-use Rattle.std.proofs.Common.{◌≡◌, ℕ, ◌≤◌, Bool, false, List, length, Option, None, Some, IfSome}
-use Rattle.std.proofs.Common.{Result, Ok, Err, OnOk, refl, sym, ◌∙◌, ap, subst}
+use Rattle.std.proofs.Common.{◌≡◌, ℕ, ◌≤◌, Bool, false, List, length, Option}
+use Rattle.std.proofs.Common.{Result, Ok, Err, OnOk, refl, sym, subst}
 use Rattle.std.proofs.lemmas.Option.{IfSome_then}
 use Rattle.std.specs.Io.KnownBytes.{IsAtEnd}
 use Rattle.byte_edge.specs.Devices.{IsCallOn}

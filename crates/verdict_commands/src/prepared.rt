@@ -2,6 +2,7 @@
 ghost use Rattle.std.specs.Prelude.{◌≡◌, IfOk};
 ghost use Rattle.command_outputs.specs.Outcomes.{ranges_file};
 ghost use Rattle.command_outputs.specs.Steps.{PassesStage};
+ghost use Rattle.grid_samples.specs.Cells.{HasClosedRanges};
 ghost use Rattle.project_commands.specs.InputRefusals.{Judges};
 ghost use Rattle.rule_types.specs.Tables.{HoldsTables};
 ghost use Rattle.rule_types.specs.WellFormed.{WellFormed};
@@ -76,6 +77,7 @@ fn prepare(project: Project, ranges: Ranges) -> Prepared
     requires well_formed { WellFormed project.rules }
     requires tables { HoldsTables project.tables project.rules.rules }
     requires fit { RangesFit project.rules ranges }
+    requires closed { HasClosedRanges ranges }
 
     ensures value { result ≡ prepared project ranges }
     ensures ready { IsReady result }

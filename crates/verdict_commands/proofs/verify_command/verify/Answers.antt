@@ -67,6 +67,30 @@ returns-in_err-counts g c =
           refl (λ counts. omega arith) (inl (λ counts. refl)) two third));
     })
 
+pub returns-in_default : goal.returns-in_default
+returns-in_default g c =
+    let ranges = g.F.Files.held c.args.files.now c.args.ranges.now in
+    let report = g.F.Files.held c.args.files.now c.args.report.now in
+    let project = c.in_ok-project.project in
+    let prepared = c.in_ok-prepared.prepared in
+    let counts = c.in_ok-counts.counts in
+    let first = c.in_ok-project.ensures.passes in
+    let one = stages-next input_file project_judged project_read _ project stages-none first in
+    let second = rw (first.call.names c.args.ranges.now) at c.in_ok-prepared.ensures.passes in
+    let two = stages-next ranges_file (ranges_judged project) prepared_read _ prepared one second in
+    let third = rw (two.names c.args.report.now) at c.in_ok-counts.ensures.passes in
+    let three = stages-next report_file (counts_judged prepared) counts_read _ counts two third in
+    record {
+      performs = stages-through verify_roles input_file project_judged project_read
+          (after_input ranges report) _ project first.judges
+          (stages-through verify_roles ranges_file (ranges_judged project) prepared_read
+          (after_ranges report) _ prepared second.judges
+          (stages-through verify_roles report_file (counts_judged prepared) counts_read
+          (λ counts. Some (verified counts)) _ counts third.judges
+          (command_ends-out_of_memory 3 verify_roles (Some (verified counts))
+          _ _ (omega arith) three)));
+    }
+
 pub returns : goal.returns
 returns g c =
     let ranges = g.F.Files.held c.args.files.now c.args.ranges.now in

@@ -1,0 +1,5 @@
+pub mod Blocks
+pub mod Judgements
+pub mod Trees
+pub mod Outcomes
+pub mod internal

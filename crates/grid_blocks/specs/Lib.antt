@@ -1,0 +1,4 @@
+pub mod BlockCuts
+pub mod GridBoxes
+pub mod GridOrder
+pub mod GridsOf

@@ -1,0 +1,4 @@
+-- What the proofs alone speak of.
+pub mod Additions
+pub mod Gridded
+pub mod NumberOrder

@@ -1,0 +1,7 @@
+mod BlockCells
+mod CellCovers
+mod Lists
+mod ShownBlocks
+pub mod PublicLaws
+mod RunOrder
+mod Tracked

@@ -1,0 +1,2 @@
+pub mod GridJudgements
+pub mod TreeCertificates

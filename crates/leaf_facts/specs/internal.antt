@@ -1,0 +1,2 @@
+pub mod BoxFacts
+pub mod FewerFacts

@@ -1,0 +1,5 @@
+mod Decided
+mod Leaves
+mod OneCellBlocks
+pub mod PublicLaws
+mod VerdictStates
