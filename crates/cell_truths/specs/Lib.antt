@@ -1,0 +1,2 @@
+pub mod DecidedTruths
+pub mod UncutPieces
