@@ -1,5 +1,6 @@
 mod FromZero
 mod GivenRanges
+mod NeededMoments
 pub mod PublicLaws
 mod ReadFiles
 mod ReadResults

@@ -1,5 +1,5 @@
-//! The law of ranges that were read from a file: they are closed, and the links of their limits are
-//! tracked.
+//! The law of ranges that were read from a file: they are closed, they have the moments that
+//! questions need, and the links of their limits are tracked.
 #![tactic(auto)]
 
 pub mod laws;
