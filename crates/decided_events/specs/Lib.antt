@@ -1,0 +1,2 @@
+pub mod DecidedLimits
+pub mod DecidedPremises
