@@ -1,0 +1,6 @@
+mod LimitSettings
+mod Lists
+mod OpenCells
+pub mod PublicLaws
+mod SampleTargets
+mod Verdicts
