@@ -1,0 +1,12 @@
+pub mod JudgedBack
+pub mod Counted
+pub mod Accepted
+pub mod LeanTrees
+pub mod OpenCells
+pub mod SampleWhole
+pub mod KeysInOrder
+pub mod SampleTold
+pub mod SampleStates
+pub mod ReadEntries
+pub mod Verified
+pub mod PublicLaws
