@@ -1,0 +1,196 @@
+"""Runs ./swmm-rules on a small repository whose `rt` is a script that notes its calls."""
+import os
+import shutil
+import signal
+import subprocess
+import tempfile
+import time
+import unittest
+
+import calls
+
+TOP = os.path.dirname(calls.TOOLS)
+RT = """#!/bin/sh
+# crates.txt has: low, high and the program. Files at the top say how it goes.
+echo "$(pwd): $*" >>"$CALLS"
+prove() {
+    if [ -f "fails-$1" ]; then printf '== %s\\nfn %s::turned: not proved\\n' "$1" "$1"; return 1; fi
+    mkdir -p "crates/$1/out/rlib"
+    : >"crates/$1/out/rlib/stamp"
+    printf '== %s\\nfn %s::new: proved\\n' "$1" "$1"
+}
+case $1 in
+all)
+    if [ -f slow ]; then echo $$ >"$CALLS.pid"; sleep 60; fi
+    if [ -f killed ]; then kill -9 $$; fi
+    if [ -f edit ]; then sleep 0.05; : >crates/low/src/lib.rt; rm edit; fi
+    if prove low && prove high && prove swmm_rules_bin; then echo "== summary"; exit 0; fi
+    printf '== swmm_rules_bin\\n== summary\\nlow: ok\\nhigh: failed (1)\\n'
+    echo "swmm_rules_bin: not run, since high failed"
+    exit 1 ;;
+run)
+    mkdir -p out
+    printf '#!/bin/sh\\npwd\\nprintf "<%%s>" "$@"\\nexit 5\\n' >out/swmm_rules_bin
+    chmod +x out/swmm_rules_bin
+    : >out/swmm_rules_bin.stamp
+    if [ -f ../../fails-program ]; then echo "it does not link"; exit 1; fi
+    exit 2 ;;
+esac
+"""
+
+
+class ScriptTest(unittest.TestCase):
+    def setUp(self):
+        self.room = tempfile.mkdtemp(prefix="swmm rules ")
+        self.addCleanup(shutil.rmtree, self.room)
+        self.top, self.folder = f"{self.room}/a clone", f"{self.room}/my models"
+        for folder in (f"{self.top}/tools", f"{self.room}/bin", self.folder):
+            os.makedirs(folder)
+        for name in ("swmm-rules", "tools/build-program"):
+            shutil.copy(f"{TOP}/{name}", f"{self.top}/{name}")
+        self.write("crates.txt", "# lowest first\nlow: std\nother: low\nhigh: low\n"
+                   "swmm_rules_bin: low high\n")
+        for crate in ("low", "other", "high", "swmm_rules_bin"):
+            self.write(f"crates/{crate}/src/lib.rt", "")
+        self.write("../bin/rt", RT)
+        os.chmod(f"{self.room}/bin/rt", 0o755)
+
+    def write(self, name, text=""):
+        path = f"{self.top}/{name}"
+        os.makedirs(os.path.dirname(path), exist_ok=True)
+        with open(path, "w", encoding="utf-8") as file:
+            file.write(text)
+
+    def environment(self, path=None):
+        return {**os.environ, "PATH": path or f"{self.room}/bin:{os.environ['PATH']}",
+                "CALLS": f"{self.room}/calls"}
+
+    def call(self, *words, script=None, path=None):
+        return subprocess.run([script or f"{self.top}/swmm-rules", *words], cwd=self.folder,
+                              env=self.environment(path), capture_output=True, text=True)
+
+    def calls(self):
+        """The calls of rt since the last look."""
+        if not os.path.exists(f"{self.room}/calls"):
+            return []
+        with open(f"{self.room}/calls", encoding="utf-8") as file:
+            lines = file.read().replace(self.top, "TOP").splitlines()
+        os.remove(f"{self.room}/calls")
+        return lines
+
+    def test_the_first_call_builds_and_says_how_far_it_is(self):
+        ran = self.call("check", "a model.inp", "")
+        self.assertEqual((ran.returncode, ran.stdout), (5, f"{self.folder}\n<check><a model.inp><>"))
+        self.assertRegex(ran.stderr, (
+            r"\Aswmm-rules: proving and building 2 libraries and the program, \d+ at a time;"
+            r" this is done once, and takes a while\n"
+            r"swmm-rules: 1 of 2 after \d+ s: low\n"
+            r"swmm-rules: 2 of 2 after \d+ s: high\n"
+            r"swmm-rules: the program is built, after \d+ s\n\Z"))
+        library, program = self.calls()
+        self.assertRegex(library, r"\ATOP: all check --jobs [1-9]\d*\Z")
+        self.assertEqual(program, "TOP/crates/swmm_rules_bin: run")
+
+    def test_the_second_call_builds_nothing(self):
+        self.call()
+        self.calls()
+        ran = self.call("tables", "x")
+        self.assertEqual((ran.returncode, ran.stderr, self.calls()), (5, "", []))
+
+    def test_it_is_found_from_any_folder_and_through_a_link(self):
+        self.call()
+        os.symlink(f"{self.top}/swmm-rules", f"{self.room}/bin/swmm-rules")
+        for script in ("../a clone/swmm-rules", f"{self.room}/bin/swmm-rules"):
+            ran = self.call("x", script=script)
+            self.assertEqual((ran.returncode, ran.stdout), (5, f"{self.folder}\n<x>"), script)
+
+    def test_what_the_program_is_made_from_makes_it_old(self):
+        for name in ("crates/low/src/lib.rt", "crates/high/specs/New.antt", "crates.txt"):
+            self.call()
+            self.calls()
+            time.sleep(0.02)
+            with open(f"{self.top}/crates.txt", encoding="utf-8") as file:
+                text = file.read()
+            self.write(name, text if name == "crates.txt" else "changed")
+            self.call()
+            self.assertEqual(len(self.calls()), 2, name)
+
+    def test_what_it_is_not_made_from_does_not(self):
+        self.call()
+        self.calls()
+        time.sleep(0.02)
+        for name in ("crates/other/src/lib.rt", "crates/low/must-fail/a.edit", "README.md"):
+            self.write(name, "changed")
+        self.call()
+        self.assertEqual(self.calls(), [])
+
+    def test_an_edit_during_a_build_is_built_next(self):
+        self.write("edit")
+        for many in (2, 2, 0):
+            self.call()
+            self.assertEqual(len(self.calls()), many)
+
+    def test_a_crate_that_is_not_proved_is_shown_and_nothing_is_run(self):
+        self.call()
+        time.sleep(0.02)
+        self.write("crates/high/src/lib.rt", "changed")
+        self.write("fails-high")
+        ran = self.call("check", "x")
+        self.assertEqual((ran.returncode, ran.stdout), (70, ""))
+        self.assertIn("fn high::turned: not proved\n", ran.stderr)
+        self.assertNotIn("fn low::new", ran.stderr)
+        self.assertTrue(ran.stderr.endswith("swmm-rules: high was not proved and built (rt says"
+                                            " why above), so nothing is run\n"), ran.stderr)
+        self.assertFalse(os.path.exists(f"{self.top}/crates/swmm_rules_bin/out/swmm_rules_bin"))
+
+    def test_a_kit_that_is_killed_builds_one_crate_at_a_time(self):
+        self.write("killed")
+        ran = self.call("x")
+        self.assertEqual((ran.returncode, ran.stdout), (5, f"{self.folder}\n<x>"))
+        self.assertIn("swmm-rules: the kit ended early, with status -9: going on with one crate"
+                      " at a time\nswmm-rules: the program is built", ran.stderr)
+
+    def test_a_program_that_is_not_built_is_not_run(self):
+        self.write("fails-program")
+        ran = self.call("check", "x")
+        self.assertEqual((ran.returncode, ran.stdout), (70, ""))
+        self.assertIn("it does not link\nswmm-rules: swmm_rules_bin was not", ran.stderr)
+
+    def test_a_machine_without_the_kit_is_told_so(self):
+        os.remove(f"{self.room}/bin/rt")
+        os.makedirs(f"{self.room}/few")
+        for name in ("sh", "readlink", "dirname", "python3", "env", "flock"):
+            os.symlink(shutil.which(name), f"{self.room}/few/{name}")
+        ran = self.call("check", "x", path=f"{self.room}/few")
+        self.assertEqual((ran.returncode, ran.stdout, ran.stderr), (
+            70, "", "swmm-rules: the program has to be built, and the command rt of the Rattle"
+            " kit is not on the PATH\n"))
+
+    def test_of_two_calls_at_once_one_builds(self):
+        both = [subprocess.Popen([f"{self.top}/swmm-rules"], cwd=self.folder,
+                                 env=self.environment(), stdout=subprocess.DEVNULL,
+                                 stderr=subprocess.DEVNULL) for _ in range(2)]
+        self.assertEqual([it.wait() for it in both], [5, 5])
+        self.assertEqual(len(self.calls()), 2)
+
+    def test_a_signal_ends_the_build(self):
+        self.write("slow")
+        run = subprocess.Popen([f"{self.top}/swmm-rules"], cwd=self.folder,
+                               env=self.environment(), stderr=subprocess.PIPE)
+        self.addCleanup(run.stderr.close)
+        pid = f"{self.room}/calls.pid"
+        while not os.path.exists(pid) or not os.path.getsize(pid):
+            time.sleep(0.01)
+        with open(pid, encoding="utf-8") as file:
+            kit = int(file.read())
+        run.send_signal(signal.SIGTERM)
+        self.assertEqual(run.wait(), 70)
+        self.assertFalse(is_alive(kit))
+
+
+def is_alive(process):
+    try:
+        os.kill(process, 0)
+    except ProcessLookupError:
+        return False
+    return True
