@@ -392,7 +392,15 @@ class CommandTest(TraceTest):
         self.assertEqual(self.call().returncode, 2)
         self.assertEqual(self.call("one").returncode, 2)
         self.assertEqual(self.call("one", "two", "--three").returncode, 2)
+        self.assertEqual(self.call("one", "two", "--header").returncode, 2)
         self.assertIn(b"RESULTS", self.call("--help").stdout)
+
+    def test_the_header_alone_for_a_recorder(self):
+        model = self.file("model.inp", swmm_files.MODEL.replace("{controls}", USUAL))
+        run = self.call(model, "--header")
+        self.assertEqual((run.returncode, run.stdout, run.stderr), (
+            0, b"moment,NODE WetWell DEPTH,LINK Sewer FLOW\n",
+            b"column              unit\nNODE WetWell DEPTH  m\nLINK Sewer FLOW     LPS\n"))
 
     def test_files_that_are_not_there(self):
         model = self.file("model.inp", swmm_files.MODEL)
