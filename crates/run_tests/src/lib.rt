@@ -1,0 +1,5 @@
+//! Tests of whole runs on devices that fail.
+#![tactic(auto)]
+
+#[cfg(test)]
+mod tests;
