@@ -1,0 +1,3 @@
+-- Lemmas of this crate, over plain values.
+pub mod FromRuns
+pub mod OfWords

@@ -1,0 +1,2 @@
+-- What a replay over files in memory leaves.
+pub mod InMemory
