@@ -6,6 +6,7 @@ pub mod June
 pub mod Marks
 pub mod OneDigit
 pub mod Plain
+pub mod PlainFields
 pub mod RecordFields
 pub mod RowsIn
 pub mod SameDay

@@ -119,3 +119,11 @@ row_by header last start fields first rest read row cut count is made_of =
     made_of ∙ ap (row_at header rest) is
     ∙ sym (counted_right header last start first rest (omega arith))
     ∙ ap (row_in header last start) (sym cut)
+
+-- the row of a moment that was checked and of fields of which none is bad
+pub row_complete : (header : Columns) (rest : List (List ℕ)) (read : Result ℤ TraceCause) (inputs : List (Option Rational))
+    → All (Within header.inputs) header.columns → has_duplicate header.columns ≡ false
+    → Some inputs ≡ filled header.columns rest (replicate header.inputs None)
+    → row_with inputs read ≡ row_at header rest read
+row_complete header rest (Err cause) inputs within single fill = refl
+row_complete header rest (Ok moment) inputs within single fill = row_filled header rest moment true inputs within single fill

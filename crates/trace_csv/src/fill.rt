@@ -1,12 +1,14 @@
 //! The inputs of a row, filled in from its fields.
-ghost use Rattle.std.specs.Prelude.{◌≡◌, ◌<◌, ◌+◌, length, drop, All, option_map};
+ghost use Rattle.std.specs.Prelude.{◌≡◌, ◌<◌, ◌+◌, true, Some, length, drop, All, IsTrue, option_map};
+ghost use Rattle.std.specs.List.{list_all};
 ghost use Rattle.csv.specs.Records.{fields_of};
 ghost use Rattle.trace_csv.specs.Fields.{further_fields};
+ghost use Rattle.trace_csv.specs.Records.{cut_at_commas, is_plain};
 ghost use Rattle.trace_csv.specs.internal.Filling.{Within, put_field as put, filled, where_good};
 ghost use Rattle.trace_csv.specs.internal.Filling.{cut_behind};
 
 use crate::field::field_input;
-use crate::record::next_field;
+use crate::record::{next_field, next_plain_field};
 use csv::ByteRecord;
 use exact_fraction::frac::Frac;
 
@@ -47,6 +49,37 @@ pub(crate) fn fill_from_text(
         behind = cut.behind;
     }
     true
+}
+
+/// Writes what the fields of a text that is cut at its commas say, in one walk. True only where the
+/// text has no double quote, no CR and no LF and has a field for each column, none of them bad; else
+/// nothing is said of what was written.
+pub(crate) fn fill_from_plain(
+    columns: &[Option<usize>],
+    text: &[u8],
+    inputs: &mut [Option<Frac>],
+) -> bool
+    requires within { All (Within (length inputs.old)) columns.now }
+    ensures plain { IsTrue result → list_all is_plain text.now ≡ true }
+    ensures count { IsTrue result → length (cut_at_commas text.now) ≡ length columns.now }
+    ensures filled { IsTrue result
+        → Some inputs.new ≡ filled columns.now (cut_at_commas text.now) inputs.old }
+    ensures long { length inputs.new ≡ length inputs.old }
+{
+    let mut behind = Some(text);
+    for at in 0..columns.len() {
+        let Some(rest) = behind else {
+            return false;
+        };
+        let Some(cut) = next_plain_field(rest) else {
+            return false;
+        };
+        if !put_field(&columns[at], cut.field, inputs) {
+            return false;
+        }
+        behind = cut.behind;
+    }
+    behind.is_none()
 }
 
 /// Writes what the fields of a record behind its first say. False where one is bad.

@@ -6,7 +6,7 @@ ghost use Rattle.csv.specs.Records.{fields_of};
 ghost use Rattle.trace_csv.specs.Fields.{first_field as first_of_fields};
 ghost use Rattle.trace_csv.specs.Records.{record_of, comma, is_plain};
 ghost use Rattle.trace_csv.specs.Records.{is_plain_line as plain_line, cut_at_commas};
-ghost use Rattle.trace_csv.specs.internal.Filling.{cut_behind};
+ghost use Rattle.trace_csv.specs.internal.Filling.{cut_behind, is_plain_behind};
 
 use byte_edge::NoMemory;
 use csv::{ByteRecord, ReaderBuilder};
@@ -56,7 +56,7 @@ pub(crate) fn plain_commas(line: &[u8]) -> Option<usize>
 }
 
 /// The number of commas of a text without a double quote, CR and LF. None for all other texts.
-pub(crate) fn commas_of_plain(text: &[u8]) -> Option<usize>
+fn commas_of_plain(text: &[u8]) -> Option<usize>
     ensures plain { IfSome result (λ commas. list_all is_plain text.now ≡ true) }
     ensures count { IfSome result (λ commas. length (cut_at_commas text.now) ≡ 1 + commas) }
 {
@@ -114,6 +114,29 @@ pub(crate) fn next_field(text: &[u8]) -> Cut<'_>
             behind: None,
         },
     }
+}
+
+/// The same, where the field has no double quote, CR and LF, so that the text has none if what stands
+/// behind the field has none. None for all other texts. It reads each byte once.
+pub(crate) fn next_plain_field(text: &[u8]) -> Option<Cut<'_>>
+    ensures cut { IfSome result (λ cut. cut_at_commas text.now
+        ≡ cut.field.now ∷ cut_behind (option_map (λ rest. rest.now) cut.behind)) }
+    ensures plain { IfSome result (λ cut.
+        is_plain_behind (option_map (λ rest. rest.now) cut.behind) ≡ true
+        → list_all is_plain text.now ≡ true) }
+{
+    for (at, byte) in text.iter().enumerate() {
+        if commas_in(*byte)? == 1 {
+            return Some(Cut {
+                field: &text[..at],
+                behind: Some(&text[at + 1..]),
+            });
+        }
+    }
+    Some(Cut {
+        field: text,
+        behind: None,
+    })
 }
 
 /// The place of the first comma.

@@ -3,15 +3,13 @@ ghost use Rattle.std.specs.Prelude.{◌≡◌, ◌∷◌, ◌+◌, true, false, 
 ghost use Rattle.std.specs.Prelude.{length, replicate, option_map, All, IfOk, IfSome, Ok};
 ghost use Rattle.csv.specs.Records.{fields_of};
 ghost use Rattle.trace_csv.specs.Columns.{has_duplicate};
-ghost use Rattle.num_text.specs.Clocks.{moment_of};
-ghost use Rattle.num_text.specs.Written.{written_moment};
 ghost use Rattle.trace_csv.specs.Records.{cut_at_commas, is_plain_line};
 ghost use Rattle.trace_csv.specs.Rows.{row_at, row_in};
 ghost use Rattle.trace_csv.specs.internal.Filling.{Within, cut_behind, row_with};
 
 use crate::fault::TraceCause;
-use crate::fill::{fill_from_record, fill_from_text};
-use crate::record::{commas_of_plain, first_field, next_field};
+use crate::fill::{fill_from_plain, fill_from_record, fill_from_text};
+use crate::record::{first_field, next_field};
 use crate::row_moment::{behind_moment, checked, moment_in};
 use crate::written_moment::WrittenMoment;
 use csv::ByteRecord;
@@ -45,8 +43,9 @@ pub(crate) fn plain_row(
     row_behind(columns, moment, cut.behind, inputs)
 }
 
-/// The same of a line that begins with the text of a moment in the same day as `written`, and has no
-/// double quote, no CR and no LF. None for all other lines.
+/// The same of a line that begins with the text of a moment in the same day as `written`, has no
+/// double quote, no CR and no LF, and a field for each column, none of them bad. None for all other
+/// lines.
 pub(crate) fn quick_row(
     columns: &[Option<usize>],
     line: &[u8],
@@ -65,44 +64,11 @@ pub(crate) fn quick_row(
     ensures long { length inputs.new ≡ length inputs.old }
 {
     let behind = behind_moment(line, written)?;
-    let commas = commas_of_plain(behind)?;
-    Some(timed_row(
-        columns,
-        behind,
-        commas,
-        written.moment(),
-        last,
-        start,
-        inputs,
-    ))
-}
-
-/// The row of a moment, and of the text behind its text and a comma, which is cut at its commas.
-fn timed_row(
-    columns: &[Option<usize>],
-    behind: &[u8],
-    commas: usize,
-    moment: Moment,
-    last: &Option<Moment>,
-    start: &Option<Moment>,
-    inputs: &mut [Option<Frac>],
-) -> Result<Moment, TraceCause>
-    requires within { All (Within (length inputs.old)) columns.now }
-    requires single { has_duplicate columns.now ≡ false }
-    requires counted { length (cut_at_commas behind.now) ≡ 1 + commas }
-    requires read { moment_of (written_moment moment) ≡ Some moment }
-    ensures row { row_with inputs.new result
-        ≡ row_in (record { columns = columns.now; inputs = length inputs.old })
-        last.now start.now (written_moment moment ∷ cut_at_commas behind.now) }
-    ensures same { IfOk result (λ found. moment ≡ found) }
-{
-    if columns.len() == 0 {
-        return Err(TraceCause::FieldCount);
+    clear(inputs);
+    if !fill_from_plain(columns, behind, inputs) {
+        return None;
     }
-    if commas != columns.len() - 1 {
-        return Err(TraceCause::FieldCount);
-    }
-    row_behind(columns, checked(moment, last, start), Some(behind), inputs)
+    Some(checked(written.moment(), last, start))
 }
 
 /// The row of a moment and of the text behind it, which is cut at its commas.

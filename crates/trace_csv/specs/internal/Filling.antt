@@ -1,11 +1,12 @@
 -- The inputs of a row as they are filled in, column by column.
 use Rattle.std.specs.Prelude.{ℕ, ◌<◌, Bool, true, false, List, [], ◌∷◌, Option, Some, None, Result}
 use Rattle.std.specs.Prelude.{Ok, Err, IfSome, option_and_then, slice_set, ℤ}
+use Rattle.std.specs.List.{list_all}
 use Rattle.exact_fraction.specs.Number.{Rational}
 use Rattle.num_text.specs.declared.error.NumberFault.{NumberFault}
 use Rattle.rule_types.specs.declared.row.Row.{Row}
 use Rattle.trace_csv.specs.Fields.{field_input}
-use Rattle.trace_csv.specs.Records.{cut_at_commas}
+use Rattle.trace_csv.specs.Records.{cut_at_commas, is_plain}
 use Rattle.trace_csv.specs.declared.fault.TraceCause.{TraceCause}
 use Rattle.trace_csv.specs.declared.fault.TraceEnd.{TraceEnd}
 use Rattle.trace_csv.specs.declared.fault.TraceEnd.TheVariants.{Fault}
@@ -42,6 +43,11 @@ where_good false inputs = None
 abbrev pub cut_behind : Option (List ℕ) → List (List ℕ)
 cut_behind None = []
 cut_behind (Some text) = cut_at_commas text
+
+-- whether the text behind a comma, if there is one, has no double quote, CR and LF
+abbrev pub is_plain_behind : Option (List ℕ) → Bool
+is_plain_behind None = true
+is_plain_behind (Some text) = list_all is_plain text
 
 -- a row of a moment that was read, and the inputs that were filled in
 abbrev pub row_with : List (Option Rational) → Result ℤ TraceCause → Result Row TraceCause
