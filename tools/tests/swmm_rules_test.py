@@ -1,5 +1,6 @@
 """Runs ./swmm-rules on a small repository whose `rt` is a script that notes its calls."""
 import os
+import re
 import shutil
 import signal
 import subprocess
@@ -11,29 +12,27 @@ import calls
 
 TOP = os.path.dirname(calls.TOOLS)
 RT = """#!/bin/sh
-# crates.txt has: low, high and the program. Files at the top say how it goes.
+# crates.txt has: low, other, high and the program. Files at the top say how it goes.
 echo "$(pwd): $*" >>"$CALLS"
-prove() {
-    if [ -f "fails-$1" ]; then printf '== %s\\nfn %s::turned: not proved\\n' "$1" "$1"; return 1; fi
-    mkdir -p "crates/$1/out/rlib"
-    : >"crates/$1/out/rlib/stamp"
-    printf '== %s\\nfn %s::new: proved\\n' "$1" "$1"
-}
+crate=$(basename "$(pwd)")
 case $1 in
-all)
-    if [ -f slow ]; then echo $$ >"$CALLS.pid"; sleep 60; fi
-    if [ -f killed ]; then kill -9 $$; fi
-    if [ -f edit ]; then sleep 0.05; : >crates/low/src/lib.rt; rm edit; fi
-    if prove low && prove high && prove swmm_rules_bin; then echo "== summary"; exit 0; fi
-    printf '== swmm_rules_bin\\n== summary\\nlow: ok\\nhigh: failed (1)\\n'
-    echo "swmm_rules_bin: not run, since high failed"
-    exit 1 ;;
+lib)
+    if [ -f "$TOP/slow" ]; then echo $$ >"$CALLS.pid"; sleep 60; fi
+    if [ -f "$TOP/killed-$crate" ]; then kill -9 $$; fi
+    if [ -f "$TOP/edit" ]; then sleep 0.05; : >"$TOP/crates/low/src/lib.rt"; rm "$TOP/edit"; fi
+    (cd ../.. && echo "$crate:" crates/*/src crates/*/out/rlib/stamp) >>"$CALLS.rooms"
+    if [ -f "$TOP/fails-$crate" ]; then echo "fn $crate::turned: not proved"; exit 1; fi
+    echo "fn $crate::new: proved"
+    mkdir -p out/rlib out/incremental
+    : >out/rlib/stamp
+    if [ -f out/incremental/work ]; then echo "$crate begins with work" >>"$CALLS.rooms"; fi
+    : >out/incremental/work ;;
 run)
     mkdir -p out
     printf '#!/bin/sh\\npwd\\nprintf "<%%s>" "$@"\\nexit 5\\n' >out/swmm_rules_bin
     chmod +x out/swmm_rules_bin
     : >out/swmm_rules_bin.stamp
-    if [ -f ../../fails-program ]; then echo "it does not link"; exit 1; fi
+    if [ -f "$TOP/fails-program" ]; then echo "it does not link"; exit 1; fi
     exit 2 ;;
 esac
 """
@@ -63,20 +62,23 @@ class ScriptTest(unittest.TestCase):
 
     def environment(self, path=None):
         return {**os.environ, "PATH": path or f"{self.room}/bin:{os.environ['PATH']}",
-                "CALLS": f"{self.room}/calls"}
+                "CALLS": f"{self.room}/calls", "TOP": self.top}
 
     def call(self, *words, script=None, path=None):
         return subprocess.run([script or f"{self.top}/swmm-rules", *words], cwd=self.folder,
                               env=self.environment(path), capture_output=True, text=True)
 
-    def calls(self):
-        """The calls of rt since the last look."""
-        if not os.path.exists(f"{self.room}/calls"):
+    def calls(self, name="calls"):
+        """The calls of rt since the last look, or what it noted in another file."""
+        if not os.path.exists(f"{self.room}/{name}"):
             return []
-        with open(f"{self.room}/calls", encoding="utf-8") as file:
+        with open(f"{self.room}/{name}", encoding="utf-8") as file:
             lines = file.read().replace(self.top, "TOP").splitlines()
-        os.remove(f"{self.room}/calls")
-        return lines
+        os.remove(f"{self.room}/{name}")
+        return [re.sub("^TOP/crates/swmm_rules_bin/out/building-[^/]*", "ROOM", it) for it in lines]
+
+    def out(self, crate):
+        return sorted(os.listdir(f"{self.top}/crates/{crate}/out"))
 
     def test_the_first_call_builds_and_says_how_far_it_is(self):
         ran = self.call("check", "a model.inp", "")
@@ -87,9 +89,37 @@ class ScriptTest(unittest.TestCase):
             r"swmm-rules: 1 of 2 after \d+ s: low\n"
             r"swmm-rules: 2 of 2 after \d+ s: high\n"
             r"swmm-rules: the program is built, after \d+ s\n\Z"))
-        library, program = self.calls()
-        self.assertRegex(library, r"\ATOP: all check --jobs [1-9]\d*\Z")
+        low, high, program = self.calls()
+        self.assertRegex(low, r"\AROOM/crates/low: lib --jobs [1-9]\d*\Z")
+        self.assertRegex(high, r"\AROOM/crates/high: lib --jobs [1-9]\d*\Z")
         self.assertEqual(program, "TOP/crates/swmm_rules_bin: run")
+
+    def test_a_room_has_the_crates_below_and_is_gone_when_its_library_is_kept(self):
+        self.call()
+        self.assertEqual(self.calls("calls.rooms"), [
+            "low: crates/low/src crates/*/out/rlib/stamp",
+            "high: crates/high/src crates/low/src crates/low/out/rlib/stamp"])
+        self.assertEqual(self.out("low"), ["incremental", "rlib"])
+        self.assertEqual(self.out("swmm_rules_bin"), ["swmm_rules_bin", "swmm_rules_bin.stamp"])
+
+    def test_a_build_begins_with_what_the_last_one_kept(self):
+        self.call()
+        time.sleep(0.02)
+        self.write("crates/low/src/lib.rt", "changed")
+        self.calls("calls.rooms")
+        self.call()
+        self.assertIn("high begins with work", self.calls("calls.rooms"))
+
+    def test_a_room_of_a_build_that_was_killed_is_removed(self):
+        self.write("crates/swmm_rules_bin/out/building-old/said", "half")
+        self.call()
+        self.assertEqual(self.out("swmm_rules_bin"), ["swmm_rules_bin", "swmm_rules_bin.stamp"])
+
+    def test_the_longest_way_up_is_built_first(self):
+        self.write("crates.txt", "low: std\nother: std\nhigh: other\nswmm_rules_bin: low high\n")
+        self.call()
+        firsts = [it.partition(":")[0] for it in self.calls()]
+        self.assertLess(firsts.index("ROOM/crates/other"), firsts.index("ROOM/crates/high"))
 
     def test_the_second_call_builds_nothing(self):
         self.call()
@@ -113,7 +143,7 @@ class ScriptTest(unittest.TestCase):
                 text = file.read()
             self.write(name, text if name == "crates.txt" else "changed")
             self.call()
-            self.assertEqual(len(self.calls()), 2, name)
+            self.assertEqual(len(self.calls()), 3, name)
 
     def test_what_it_is_not_made_from_does_not(self):
         self.call()
@@ -126,7 +156,7 @@ class ScriptTest(unittest.TestCase):
 
     def test_an_edit_during_a_build_is_built_next(self):
         self.write("edit")
-        for many in (2, 2, 0):
+        for many in (3, 3, 0):
             self.call()
             self.assertEqual(len(self.calls()), many)
 
@@ -144,11 +174,11 @@ class ScriptTest(unittest.TestCase):
         self.assertFalse(os.path.exists(f"{self.top}/crates/swmm_rules_bin/out/swmm_rules_bin"))
 
     def test_a_kit_that_is_killed_builds_one_crate_at_a_time(self):
-        self.write("killed")
+        self.write("killed-high")
         ran = self.call("x")
         self.assertEqual((ran.returncode, ran.stdout), (5, f"{self.folder}\n<x>"))
-        self.assertIn("swmm-rules: the kit ended early, with status -9: going on with one crate"
-                      " at a time\nswmm-rules: the program is built", ran.stderr)
+        self.assertIn("swmm-rules: the check of high was killed, most likely for want of memory:"
+                      " going on with one crate at a time\nswmm-rules: the program is built", ran.stderr)
 
     def test_a_program_that_is_not_built_is_not_run(self):
         self.write("fails-program")
@@ -171,7 +201,7 @@ class ScriptTest(unittest.TestCase):
                                  env=self.environment(), stdout=subprocess.DEVNULL,
                                  stderr=subprocess.DEVNULL) for _ in range(2)]
         self.assertEqual([it.wait() for it in both], [5, 5])
-        self.assertEqual(len(self.calls()), 2)
+        self.assertEqual(len(self.calls()), 3)
 
     def test_a_signal_ends_the_build(self):
         self.write("slow")
