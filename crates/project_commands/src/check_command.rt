@@ -22,7 +22,9 @@ pub fn check<F: Files, O: Sink>(
         (O.written out.old) (O.written out.new) (O.faults out.old) (O.faults out.new) result }
 {
     let project = read_input(alloc, input, files)?;
-    let Ok(text) = check_text(alloc, &project) else {
+    let text = check_text(alloc, &project);
+    drop(project);
+    let Ok(text) = text else {
         return Err(Complaint::OutOfMemory);
     };
     write_text(out, &text, Completion::Done)

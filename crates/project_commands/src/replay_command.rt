@@ -35,9 +35,13 @@ pub fn replay<F: Files, O: Sink>(
 {
     let project = read_input(alloc, input, files)?;
     let Ok(mut printer) = printer_of(alloc, &project) else {
+        drop(project);
         return Err(Complaint::OutOfMemory);
     };
-    stream_trace(alloc, &mut printer, trace, files, out)
+    let answer = stream_trace(alloc, &mut printer, trace, files, out);
+    drop(printer);
+    drop(project);
+    answer
 }
 
 /// The printer of a replay by the decision tables of a project's rules, before the first line of

@@ -48,7 +48,9 @@ pub fn read_ranges_file<F: Files>(
     ensures ready { IfOk result IsReady }
 {
     let lines = read_file(alloc, &RANGES_FILE, name, files)?;
-    judge(alloc, &lines, project)
+    let answer = judge(alloc, &lines, project);
+    drop(lines);
+    answer
 }
 
 /// Judges the lines of a ranges file.
@@ -63,12 +65,17 @@ fn judge(alloc: Global, lines: &Lines, project: Project) -> Result<Prepared, Com
     match read_ranges(alloc, lines, &project.rules, &project.objects) {
         Ok(ranges) => Ok(prepare(project, ranges)),
         Err(RangeEnd::Fault { line, cause, key }) => {
-            match range_refusal(alloc, &project.objects, line, cause, key) {
+            let said = range_refusal(alloc, &project.objects, line, cause, key);
+            drop(project);
+            match said {
                 Ok(said) => Err(Complaint::Refused(said)),
                 Err(NoMemory) => Err(Complaint::OutOfMemory),
             }
         }
-        Err(RangeEnd::NoMemory) => Err(Complaint::OutOfMemory),
+        Err(RangeEnd::NoMemory) => {
+            drop(project);
+            Err(Complaint::OutOfMemory)
+        }
     }
 }
 

@@ -29,7 +29,9 @@ pub fn prove<F: Files, O: Sink>(
 {
     let project = read_input(alloc, input, files)?;
     let prepared = read_ranges_file(alloc, ranges, project, files)?;
-    let Ok(report) = decide_all(alloc, &prepared) else {
+    let report = decide_all(alloc, &prepared);
+    drop(prepared);
+    let Ok(report) = report else {
         return Err(Complaint::OutOfMemory);
     };
     write_text(out, &report.text, report.completion)

@@ -33,7 +33,9 @@ pub fn read_report_file<F: Files>(
         (F.left files.old) (F.left files.new) (F.faults files.old) (F.faults files.new) result }
 {
     let lines = read_file(alloc, &REPORT_FILE, name, files)?;
-    judge(alloc, &lines, prepared)
+    let answer = judge(alloc, &lines, prepared);
+    drop(lines);
+    answer
 }
 
 /// Checks the entries of a report.

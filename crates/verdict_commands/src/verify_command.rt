@@ -34,7 +34,9 @@ pub fn verify<F: Files, O: Sink>(
 {
     let project = read_input(alloc, input, files)?;
     let prepared = read_ranges_file(alloc, ranges, project, files)?;
-    let counts = read_report_file(alloc, report, &prepared, files)?;
+    let counts = read_report_file(alloc, report, &prepared, files);
+    drop(prepared);
+    let counts = counts?;
     let Ok(text) = verify_text(alloc, &counts) else {
         return Err(Complaint::OutOfMemory);
     };

@@ -28,7 +28,7 @@ returns g c =
     let held = g.F.Files.held c.args.files.now c.args.trace.now in
     let passed = stages-next input_file project_judged project_read _ project stages-none passes in
     let same = fun_ext (λ lines. c.in-Ok.ensures.prints lines) in
-    let streams = rw (passes.call.names c.args.trace.now, same) at c.stream_trace.ensures.streams in
+    let streams = rw (passes.call.names c.args.trace.now, same) at c.stream_trace-answer.ensures.streams in
     record {
       performs = stages-through replay_roles input_file project_judged project_read
           (λ p. stream (replay_printed p) held) _ project passes.judges

@@ -16,6 +16,7 @@ returns-in_err-lines g c =
 pub returns : goal.returns
 returns g c = record {
   passes = judged_stage ranges_file (ranges_judged c.args.project) prepared_read _
-      c.in_ok-lines.lines c.judge.result c.in_ok-lines.ensures.passes c.judge.ensures.judges;
-  ready = c.judge.ensures.ready;
+      c.in_ok-lines.lines c.judge-answer.result c.in_ok-lines.ensures.passes
+      c.judge-answer.ensures.judges;
+  ready = c.judge-answer.ensures.ready;
 }

@@ -15,5 +15,6 @@ returns-in_err-lines g c =
 pub returns : goal.returns
 returns g c = record {
   passes = judged_stage report_file (counts_judged c.args.prepared.now) counts_read _
-      c.in_ok-lines.lines c.judge.result c.in_ok-lines.ensures.passes c.judge.ensures.judges;
+      c.in_ok-lines.lines c.judge-answer.result c.in_ok-lines.ensures.passes
+      c.judge-answer.ensures.judges;
 }
