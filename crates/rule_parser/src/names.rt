@@ -1,7 +1,8 @@
 //! Declared names.
-ghost use Rattle.std.specs.Prelude.{◌≡◌, [], OnOk};
+ghost use Rattle.std.specs.Prelude.{◌≡◌, [], ◌<◌, IfOk, OnOk, OnErr, vec_capacity, vec_len};
 ghost use Rattle.std.specs.List.{list_all};
 ghost use Rattle.control_lines.specs.Views.{checked_now};
+ghost use Rattle.expr_parser.specs.Names.{with_name};
 ghost use Rattle.rule_types.specs.Reading.{is_variable_kind as is_of_variable};
 ghost use Rattle.rule_parser.specs.Declarations.{name_place, variable_key as key_of, and_name};
 ghost use Rattle.rule_parser.specs.Declarations.{begins_name as can_begin, is_reserved as reserves};
@@ -67,26 +68,9 @@ impl NameList {
     ) -> Result<(), NoMemory>
         ensures { OnOk result (self.new ≡ and_name self.old name.now stands_for) }
     {
-        const MOST: u64 = 1 << 32;
-        if self.index.len() as u64 >= MOST {
-            return Err(NoMemory);
-        }
-        let Ok(own) = Vec::from_slice(alloc, name) else {
-            return Err(NoMemory);
-        };
-        let Ok(()) = self.names.reserve(1) else {
-            return Err(NoMemory);
-        };
-        let Ok(_) = self.index.add(name, is_variable(&stands_for)) else {
-            return Err(NoMemory);
-        };
-        let named = NameDef {
-            name: Bytes::from_vec(own),
-            stands_for,
-        };
-        let Ok(()) = self.names.push(named) else {
-            return Err(NoMemory);
-        };
+        let named = name_of(alloc, name, stands_for)?;
+        enter(&mut self.names, &mut self.index, &named)?;
+        self.names.push_reserved(named);
         Ok(())
     }
 
@@ -152,6 +136,41 @@ impl NameList {
             is_new,
             both(is_free, room_for(b"names", MOST_NAMES, self.names.len())),
         )
+    }
+}
+
+/// A name, with what it stands for.
+fn name_of(alloc: Global, name: &[u8], stands_for: NameKind) -> Result<NameDef, NoMemory>
+    ensures { IfOk result (λ named. named
+        ≡ record { name = name.now; stands_for = stands_for }) }
+{
+    match Vec::from_slice(alloc, name) {
+        Ok(own) => Ok(NameDef {
+            name: Bytes::from_vec(own),
+            stands_for,
+        }),
+        Err(_) => Err(NoMemory),
+    }
+}
+
+/// Makes room for a name in a list, and enters it into the index.
+fn enter(names: &mut Vec<NameDef>, index: &mut NameIndex, named: &NameDef) -> Result<(), NoMemory>
+    ensures items { names.new.items ≡ names.old.items }
+    ensures room { OnOk result (vec_len names.new < vec_capacity names.new) }
+    ensures entered { OnOk result (index.new
+        ≡ with_name index.old named.now.name (is_of_variable named.now.stands_for)) }
+    ensures unchanged { OnErr result (index.new ≡ index.old) }
+{
+    const MOST: u64 = 1 << 32;
+    if index.len() as u64 >= MOST {
+        return Err(NoMemory);
+    }
+    let Ok(()) = names.reserve(1) else {
+        return Err(NoMemory);
+    };
+    match index.add(named.name.as_slice(), is_variable(&named.stands_for)) {
+        Ok(_) => Ok(()),
+        Err(_) => Err(NoMemory),
     }
 }
 

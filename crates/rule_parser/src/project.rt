@@ -10,11 +10,13 @@ ghost use Rattle.inp_text.specs.declared.section_kind.SectionKind.TheVariants.{S
 ghost use Rattle.inp_text.specs.internal.Represents.{Represents, kept};
 ghost use Rattle.rule_types.specs.Refusals.{earlier};
 ghost use Rattle.curves_series.specs.Names.{named_tables};
+ghost use Rattle.network_lines.specs.Objects.{no_network, object_lines, objects_refusal};
 ghost use Rattle.network_lines.specs.internal.Views.{IsStart};
 ghost use Rattle.rule_parser.specs.Controls.{no_draft, controls_from};
-ghost use Rattle.rule_parser.specs.Projects.{project_of, project_with, project_unless, refusal_of};
-ghost use Rattle.rule_parser.specs.Projects.{tables_of, long_refusal as refused_long, Reads};
+ghost use Rattle.rule_parser.specs.Projects.{network_of, project_of, project_with, tables_of, Reads};
+ghost use Rattle.rule_parser.specs.Projects.{long_refusal as refused_long};
 ghost use Rattle.rule_parser.specs.internal.Fitting.{IsDone};
+ghost use Rattle.rule_parser.specs.internal.ProjectParts.{both_read, first_of, project_by};
 ghost use Rattle.rule_parser.specs.internal.Views.{text_and_long};
 
 use crate::context::Context;
@@ -26,7 +28,7 @@ use byte_edge::NoMemory;
 use control_lines::Fault;
 use curves_series::{TableNames, Tables};
 use inp_text::{SectionKind, Sections};
-use network_lines::{Network, NetworkRead, OptionSet, OptionsRead, read_network, read_options};
+use network_lines::{Network, NetworkRead, OptionSet, read_network, read_options};
 use object_index::ObjectIndex;
 use rule_types::{Cause, ReadFault, Refusal, Rules, earlier_refusal};
 use std::alloc::Global;
@@ -68,12 +70,33 @@ fn read_parts(alloc: Global, sections: &Sections) -> Result<Result<Project, Refu
     ensures objects { IfOk result (λ read. IfOk read (λ project.
         HoldsObjects project.objects project.rules)) }
 {
+    let set = read_options(alloc, sections.lines(SectionKind::Options))?;
+    let options = set.options;
+    let network = read_objects(alloc, sections, set.refusal)?;
+    let controls = read_rules(alloc, sections, &network.network)?;
+    project_by(alloc, &options, network, controls)
+}
+
+/// The objects, and the first refusal among their lines, those of the options, and lines that are
+/// too long or have control bytes.
+fn read_objects(
+    alloc: Global,
+    sections: &Sections,
+    of_options: Option<Refusal>,
+) -> Result<NetworkRead, NoMemory>
+    ensures network { IfOk result (λ read. read.network
+        ≡ network_of (kept sections.now.kept)) }
+    ensures refusal { IfOk result (λ read. read.refusal
+        ≡ earlier (earlier (text_and_long (kept sections.now.kept) sections.now.first_long)
+        of_options) (objects_refusal no_network (object_lines (kept sections.now.kept)))) }
+{
     let other = other_refusal(alloc, sections)?;
-    let options = read_options(alloc, sections.lines(SectionKind::Options))?;
-    let network = read_network(alloc, sections)?;
-    let tables = read_tables(alloc, sections)?;
-    let draft = read_draft(alloc, sections, &network.network)?;
-    project_by(alloc, other, options, network, tables, draft)
+    let others = earlier_refusal(other, of_options);
+    let NetworkRead { network, refusal } = read_network(alloc, sections)?;
+    Ok(NetworkRead {
+        network,
+        refusal: earlier_refusal(others, refusal),
+    })
 }
 
 /// The refusals of lines that are too long or have control bytes.
@@ -135,58 +158,85 @@ fn read_draft(
     read_controls(alloc, context, sections.lines(SectionKind::Controls))
 }
 
+/// The control lines of a file, and the tables that they use.
+#[derive(Drop)]
+pub(crate) struct ControlsRead {
+    pub(crate) tables: Tables,
+    pub(crate) draft: Draft,
+}
+
+/// The used tables and the control lines, or the first refusal on their lines.
+fn read_rules(
+    alloc: Global,
+    sections: &Sections,
+    network: &Network,
+) -> Result<Result<ControlsRead, Refusal>, NoMemory>
+    ensures value { (earlier : List Line) → Represents sections.now earlier
+        → IfOk result (λ read. read ≡ both_read (tables_of (λ kind. section_lines kind earlier))
+        (controls_from (record {
+          objects = network.now.objects;
+          tables = named_tables (section_lines Curves earlier) (section_lines Series earlier);
+        }) no_draft (section_lines Controls earlier))) }
+    ensures fits { IfOk result (λ read. IfOk read (λ read. IsDone network.now.objects read.draft)) }
+{
+    let tables = read_tables(alloc, sections)?;
+    let draft = read_draft(alloc, sections, network)?;
+    Ok(both_read(tables, draft))
+}
+
+/// The tables and the control lines, or the lower of their refusals.
+fn both_read(
+    tables: Result<Tables, Refusal>,
+    draft: Result<Draft, Refusal>,
+) -> Result<ControlsRead, Refusal>
+    ensures { result ≡ both_read tables draft }
+{
+    match tables {
+        Ok(tables) => match draft {
+            Ok(draft) => Ok(ControlsRead { tables, draft }),
+            Err(refusal) => Err(refusal),
+        },
+        Err(first) => match draft {
+            Ok(_) => Err(first),
+            Err(second) => Err(first.lower(second)),
+        },
+    }
+}
+
 /// The project of all parts, or the first refusal of them.
 fn project_by(
     alloc: Global,
-    other: Option<Refusal>,
-    options: OptionsRead,
+    options: &OptionSet,
     network: NetworkRead,
-    tables: Result<Tables, Refusal>,
-    draft: Result<Draft, Refusal>,
+    read: Result<ControlsRead, Refusal>,
 ) -> Result<Result<Project, Refusal>, NoMemory>
-    requires start { IsStart options.options }
-    requires done { IfOk draft (IsDone network.network.objects) }
-    requires step { IsRoutingStep options.options.routing_step }
+    requires start { IsStart options.now }
+    requires done { IfOk read (λ read. IsDone network.network.objects read.draft) }
+    requires step { IsRoutingStep options.now.routing_step }
     requires links { All IsLinkData network.network.links }
-    ensures value { IfOk result (λ read. read ≡ project_unless (earlier other
-        (earlier options.refusal (earlier network.refusal
-        (earlier (refusal_of tables) (refusal_of draft))))) options.options network.network tables
-        draft) }
+    ensures value { IfOk result (λ project. project
+        ≡ project_by network.refusal options.now network.network read) }
     ensures well_formed { IfOk result (λ read. IfOk read (λ project. WellFormed project.rules)) }
     ensures objects { IfOk result (λ read. IfOk read (λ project.
         HoldsObjects project.objects project.rules)) }
 {
     let NetworkRead { network, refusal } = network;
-    let lines = earlier_refusal(options.refusal, refusal);
-    match tables {
-        Ok(tables) => match draft {
-            Ok(draft) => match earlier_refusal(other, lines) {
-                Some(refusal) => Ok(Err(refusal)),
-                None => build(alloc, &options.options, network, tables, draft),
-            },
-            Err(refusal) => Ok(Err(lowest(other, lines, refusal))),
+    match read {
+        Ok(read) => match refusal {
+            Some(refusal) => Ok(Err(refusal)),
+            None => build(alloc, options, network, read),
         },
-        Err(first) => match draft {
-            Ok(_) => Ok(Err(lowest(other, lines, first))),
-            Err(second) => Ok(Err(lowest(other, lines, first.lower(second)))),
-        },
+        Err(last) => Ok(Err(first_of(refusal, last))),
     }
 }
 
-/// The lowest of refusals.
-#[tactic(auto, unfolding(rule_types::specs::Refusals::earlier))]
-fn lowest(other: Option<Refusal>, lines: Option<Refusal>, last: Refusal) -> Refusal
-    ensures { earlier other (earlier lines (Some last)) ≡ Some result }
+/// The lower of a refusal and of another, if there is one.
+fn first_of(other: Option<Refusal>, last: Refusal) -> Refusal
+    ensures { result ≡ first_of other last }
 {
     match other {
-        Some(first) => match lines {
-            Some(second) => first.lower(second.lower(last)),
-            None => first.lower(last),
-        },
-        None => match lines {
-            Some(second) => second.lower(last),
-            None => last,
-        },
+        Some(first) => first.lower(last),
+        None => last,
     }
 }
 
@@ -195,19 +245,19 @@ fn build(
     alloc: Global,
     options: &OptionSet,
     network: Network,
-    tables: Tables,
-    draft: Draft,
+    read: ControlsRead,
 ) -> Result<Result<Project, Refusal>, NoMemory>
     requires start { IsStart options.now }
-    requires done { IsDone network.objects draft }
+    requires done { IsDone network.objects read.draft }
     requires step { IsRoutingStep options.now.routing_step }
     requires links { All IsLinkData network.links }
-    ensures value { IfOk result (λ read. read
-        ≡ Ok (project_with options.now network tables draft)) }
+    ensures value { IfOk result (λ project. project
+        ≡ Ok (project_with options.now network read.tables read.draft)) }
     ensures well_formed { IfOk result (λ read. IfOk read (λ project. WellFormed project.rules)) }
     ensures objects { IfOk result (λ read. IfOk read (λ project.
         HoldsObjects project.objects project.rules)) }
 {
+    let ControlsRead { tables, draft } = read;
     match rules_of(alloc, options, &network, draft) {
         Ok(rules) => Ok(Ok(Project {
             rules,

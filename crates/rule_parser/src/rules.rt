@@ -9,7 +9,9 @@ ghost use Rattle.rule_parser.specs.Controls.{with_last as with_last_rule};
 ghost use Rattle.rule_parser.specs.Projects.{rules_of as all_rules, rules_with as all_with};
 ghost use Rattle.rule_parser.specs.Projects.{is_pump as pumps, setting_in, rate_in};
 ghost use Rattle.rule_parser.specs.Projects.{pumps_among as all_pumps, settings_among as settings};
-ghost use Rattle.rule_parser.specs.Projects.{rates_among as all_rates};
+ghost use Rattle.rule_parser.specs.Projects.{rates_among as all_rates, controlled_links};
+ghost use Rattle.rule_parser.specs.Projects.{input_keys, tracked_links};
+ghost use Rattle.rule_parser.specs.internal.RuleLists.{AreListed, links_of, lists_of};
 
 use crate::draft::Draft;
 use crate::noted::{Noted, links_acted};
@@ -67,7 +69,6 @@ fn with_last(closed: Items<Rule>, last: Option<Rule>) -> Result<Items<Rule>, NoM
 }
 
 /// The rules of a file with these options, objects, names and rules.
-#[tactic(auto, using(crate::proofs::Sums::tracked_are))]
 fn rules_with(
     alloc: Global,
     options: &OptionSet,
@@ -79,29 +80,92 @@ fn rules_with(
     ensures value { IfOk result (λ found. found ≡ all_with options.now network.now names rules) }
     ensures counted { IfOk result AreCounted }
 {
-    let controlled = listed_links(alloc, &links_acted(alloc, rules.as_slice())?)?;
-    let mut noted = Noted {
-        keys: BTreeSet::new(alloc),
-        links: links_acted(alloc, rules.as_slice())?,
-    };
-    noted.rules(alloc, names.as_slice(), rules.as_slice())?;
-    let tracked = listed_links(alloc, &noted.links)?;
-    let input_keys = listed_keys(alloc, &noted.keys)?;
-    let pumps = pumps_among(alloc, &network.objects, controlled.as_slice())?;
-    let initial = settings_among(alloc, network.links.as_slice(), tracked.as_slice())?;
-    let rates = rates_among(alloc, network.links.as_slice(), tracked.as_slice())?;
+    let lists = lists_of(alloc, names.as_slice(), rules.as_slice())?;
+    let links = links_of(alloc, network, &lists)?;
     Ok(Rules {
         rules,
         names,
-        input_keys,
-        tracked,
-        controlled,
-        pumps,
-        initial,
-        rates,
+        input_keys: lists.input_keys,
+        tracked: lists.tracked,
+        controlled: lists.controlled,
+        pumps: links.pumps,
+        initial: links.initial,
+        rates: links.rates,
         start: options.start(),
         routing_step: options.routing_step,
         rule_step: options.rule_step,
+    })
+}
+
+/// The links that rules act on, these and the links that they read, and the keys that they read
+/// from the trace, each in order.
+#[derive(Drop)]
+pub(crate) struct RuleLists {
+    pub(crate) controlled: Items<u32>,
+    pub(crate) tracked: Items<u32>,
+    pub(crate) input_keys: Items<Key>,
+}
+
+/// What rules act on and read.
+fn lists_of(alloc: Global, names: &[NameDef], rules: &[Rule]) -> Result<RuleLists, NoMemory>
+    ensures value { IfOk result (λ lists. lists ≡ lists_of names.now rules.now) }
+    ensures counted { IfOk result AreListed }
+{
+    let controlled = controlled_of(alloc, rules)?;
+    let noted = noted_of(alloc, names, rules)?;
+    let tracked = listed_links(alloc, &noted.links)?;
+    let input_keys = listed_keys(alloc, &noted.keys)?;
+    Ok(RuleLists {
+        controlled,
+        tracked,
+        input_keys,
+    })
+}
+
+/// The links that rules act on, in order.
+fn controlled_of(alloc: Global, rules: &[Rule]) -> Result<Items<u32>, NoMemory>
+    ensures value { IfOk result (λ list. list ≡ controlled_links rules.now) }
+    ensures few { IfOk result IsCountable }
+{
+    let acted = links_acted(alloc, rules)?;
+    listed_links(alloc, &acted)
+}
+
+/// The keys that rules read, and the links that they act on or read.
+#[tactic(auto, using(crate::proofs::Sums::tracked_are))]
+fn noted_of(alloc: Global, names: &[NameDef], rules: &[Rule]) -> Result<Noted, NoMemory>
+    ensures keys { IfOk result (λ noted. noted.keys.keys ≡ input_keys names.now rules.now) }
+    ensures links { IfOk result (λ noted. noted.links.keys ≡ tracked_links names.now rules.now) }
+{
+    let mut noted = Noted {
+        keys: BTreeSet::new(alloc),
+        links: links_acted(alloc, rules)?,
+    };
+    noted.rules(alloc, names, rules)?;
+    Ok(noted)
+}
+
+/// Of each controlled link whether it is a pump, and the initial setting and the rate of each
+/// tracked link.
+#[derive(Drop)]
+pub(crate) struct LinkLists {
+    pub(crate) pumps: Items<bool>,
+    pub(crate) initial: Items<Frac>,
+    pub(crate) rates: Items<Frac>,
+}
+
+/// What the network says of the links of rules.
+fn links_of(alloc: Global, network: &Network, lists: &RuleLists) -> Result<LinkLists, NoMemory>
+    ensures value { IfOk result (λ links. links ≡ links_of network.now lists.now) }
+{
+    let tracked = lists.tracked.as_slice();
+    let pumps = pumps_among(alloc, &network.objects, lists.controlled.as_slice())?;
+    let initial = settings_among(alloc, network.links.as_slice(), tracked)?;
+    let rates = rates_among(alloc, network.links.as_slice(), tracked)?;
+    Ok(LinkLists {
+        pumps,
+        initial,
+        rates,
     })
 }
 
