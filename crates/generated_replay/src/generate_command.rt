@@ -48,7 +48,10 @@ fn generated_text(alloc: Global, n: u32) -> Result<Vec<u8>, Complaint>
     let Ok((input, trace)) = gen_files(alloc, n) else {
         return Err(Complaint::OutOfMemory);
     };
-    text_of(alloc, n, &input, &trace)
+    let text = text_of(alloc, n, &input, &trace);
+    drop(input);
+    drop(trace);
+    text
 }
 
 /// The text over an input file and a trace with these bytes.
@@ -62,9 +65,15 @@ fn text_of(alloc: Global, n: u32, input: &[u8], trace: &[u8]) -> Result<Vec<u8>,
     };
     let replayed = match replay_project(alloc, &project, trace) {
         Ok(replayed) => replayed,
-        Err(complaint) => return Err(complaint),
+        Err(complaint) => {
+            drop(project);
+            return Err(complaint);
+        }
     };
-    match tally_text(alloc, n, &project, &replayed) {
+    let text = tally_text(alloc, n, &project, &replayed);
+    drop(replayed);
+    drop(project);
+    match text {
         Ok(text) => Ok(text),
         Err(_) => Err(Complaint::OutOfMemory),
     }

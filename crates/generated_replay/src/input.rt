@@ -30,7 +30,9 @@ pub(crate) fn project_of(alloc: Global, input: &[u8]) -> Result<Project, Complai
     let Ok(sections) = sections_of(alloc, input) else {
         return Err(Complaint::OutOfMemory);
     };
-    judge(alloc, &sections)
+    let judged = judge(alloc, &sections);
+    drop(sections);
+    judged
 }
 
 /// The lines of an input file, kept by section.

@@ -1,7 +1,5 @@
-use Rattle.std.proofs.Common.{rules, ◌≡◌, ◌+◌, ◌∷◌, List, map, option_map, arith}
+use Rattle.std.proofs.Common.{rules, ◌≡◌, ◌+◌, map, arith}
 use Rattle.byte_edge.specs.Lines.{lines, capped}
-use Rattle.inp_text.specs.Sections.{Line}
-use Rattle.inp_text.specs.internal.Represents.{Represents}
 use Rattle.generated_replay.proofs.Sections.{read_more}
 use Rattle.generated_replay.proofs.input.sections_of.Goals as goal
 
