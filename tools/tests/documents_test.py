@@ -1,8 +1,8 @@
 """Runs each command that README.md and docs/ show behind a `$`, and compares what it prints.
 
 The commands of a document run in one folder, in their order, which has the examples, the tools,
-and the program where it is built. Where it is not, what the stored files of the examples have is
-compared, and other commands of the program are passed over.
+and the program that is built. Where none is, or that of some commands alone, what the stored files
+of the examples have is compared, and other commands of the program are passed over.
 """
 import csv
 import datetime
@@ -17,8 +17,11 @@ import calls
 import swmm_files
 
 TOP = os.path.dirname(calls.TOOLS)
-PROGRAM = f"{TOP}/crates/swmm_rules_bin/out/swmm_rules_bin"
-HAS_PROGRAM = os.access(PROGRAM, os.X_OK)
+PROGRAMS = {  # the program of each crate, and its commands
+    f"{TOP}/crates/swmm_rules_bin/out/swmm_rules_bin": "check tables replay prove verify gen".split(),
+    f"{TOP}/crates/project_bin/out/project_bin": "check tables replay".split()}
+PROGRAM = next((path for path in PROGRAMS if os.access(path, os.X_OK)), None)
+COMMANDS = PROGRAMS.get(PROGRAM, [])
 TANK = "./swmm-rules {} examples/storm-tank.inp"
 STORED = {  # the outputs that examples/ has
     f"{TANK.format('replay')} examples/storm-tank.csv": "storm-tank.out",
@@ -69,6 +72,12 @@ def is_shown(shown, printed):
     return at == len(printed)
 
 
+def is_runnable(command, words=COMMANDS):
+    """Whether what a line calls of the program is there: one of these words follows each call."""
+    called = re.findall(r"\./swmm-rules(?: (\w+))?", command)
+    return all(word in words for word in called)
+
+
 def write_results(path):
     """Results of a run over the hours of the storm tank's trace, whose gap is filled."""
     with open(f"{TOP}/examples/storm-tank.csv", encoding="utf-8", newline="") as file:
@@ -89,7 +98,7 @@ class DocumentsTest(unittest.TestCase):
         os.mkdir(self.folder)
         shutil.copytree(f"{TOP}/examples", f"{self.folder}/examples")
         os.symlink(calls.TOOLS, f"{self.folder}/tools")
-        if HAS_PROGRAM:
+        if PROGRAM:
             os.symlink(PROGRAM, f"{self.folder}/swmm-rules")
         shutil.copy(f"{TOP}/examples/storm-tank.inp", f"{self.folder}/model.inp")
         write_results(f"{self.folder}/model.out")
@@ -103,9 +112,8 @@ class DocumentsTest(unittest.TestCase):
 
     def look(self, *document):
         for block in blocks(text_of(*document)):
-            commands = [command for command, _ in block]
-            is_program = any(command.startswith("./swmm-rules") for command in commands)
-            if not is_program or HAS_PROGRAM:
+            if all(is_runnable(command) for command, _ in block):
+                commands = [command for command, _ in block]
                 for (command, shown), printed in zip(block, self.run_block(commands)):
                     with self.subTest(command):
                         self.assertTrue(is_shown(shown, printed), "\n".join(["", *printed]))
@@ -124,11 +132,12 @@ class DocumentsTest(unittest.TestCase):
     def test_commands_of_the_formats_print_what_they_show(self):
         self.look("docs", "FORMATS.md")
 
-    @unittest.skipUnless(HAS_PROGRAM, "the program is not built")
+    @unittest.skipUnless(PROGRAM, "no program is built")
     def test_the_program_prints_what_the_examples_have(self):
         for command, name in STORED.items():
-            printed = self.run_block([command])[0]
-            self.assertEqual(printed, text_of("examples", name).splitlines(), name)
+            if is_runnable(command):
+                printed = self.run_block([command])[0]
+                self.assertEqual(printed, text_of("examples", name).splitlines(), name)
 
 
 class FormsTest(unittest.TestCase):
@@ -137,6 +146,14 @@ class FormsTest(unittest.TestCase):
     def test_blocks_are_commands_with_their_lines(self):
         text = "a\n\n    $ one\n    1\n\n      2\n    $ two\n\nb\n\n    no\n\n1. c\n\n        $ three\n        3\n"
         self.assertEqual(blocks(text), [[("one", ["1", "", "  2"]), ("two", [])], [("three", ["3"])]])
+
+    def test_commands_that_the_program_has_not_are_told_apart(self):
+        words = ["check", "replay"]
+        for command in ("ls", "./swmm-rules check a", "sed x a > b; ./swmm-rules replay a b"):
+            self.assertTrue(is_runnable(command, words), command)
+        for command in ("./swmm-rules", "./swmm-rules gen 2", "./swmm-rules checks a"):
+            self.assertFalse(is_runnable(command, words), command)
+        self.assertFalse(is_runnable("./swmm-rules check a", []))
 
     def test_lines_that_are_left_out_are_counted(self):
         for shown, printed, answer in (

@@ -1,11 +1,11 @@
-"""The stored run of the program is the example, so that neither can change alone."""
+"""The stored runs of the programs are the example, so that none can change alone."""
 import os
 import unittest
 
 import calls
 
 TOP = os.path.dirname(calls.TOOLS)
-PROGRAM = os.path.join(TOP, "crates", "swmm_rules_bin")
+PROGRAMS = [os.path.join(TOP, "crates", name) for name in ("swmm_rules_bin", "project_bin")]
 EXAMPLES = os.path.join(TOP, "examples")
 
 
@@ -16,12 +16,15 @@ def content(*parts):
 
 class StoredRunTest(unittest.TestCase):
     def test_its_files_are_those_of_the_example(self):
-        for name in ("storm-tank.inp", "storm-tank.csv"):
-            self.assertEqual(content(PROGRAM, "data", name), content(EXAMPLES, name), name)
+        for program in PROGRAMS:
+            for name in ("storm-tank.inp", "storm-tank.csv"):
+                self.assertEqual(content(program, "data", name), content(EXAMPLES, name), program)
 
     def test_its_text_is_that_of_the_example(self):
-        self.assertEqual(content(PROGRAM, "stdout"), content(EXAMPLES, "storm-tank.out"))
+        for program in PROGRAMS:
+            self.assertEqual(content(program, "stdout"), content(EXAMPLES, "storm-tank.out"), program)
 
     def test_its_words_are_a_replay_of_these_files(self):
-        self.assertEqual(content(PROGRAM, "args").split(),
-                         [b"replay", b"storm-tank.inp", b"storm-tank.csv"])
+        for program in PROGRAMS:
+            self.assertEqual(content(program, "args").split(),
+                             [b"replay", b"storm-tank.inp", b"storm-tank.csv"], program)

@@ -7,17 +7,26 @@ import subprocess
 import tempfile
 import time
 import unittest
+from unittest import mock
 
 import calls
 
 TOP = os.path.dirname(calls.TOOLS)
+BUILD = calls.tool("build-program")
+CRATES = "# lowest first\nlow: std\nother: low\nhigh: low\nswmm_rules_bin: low high\nproject_bin: low\n"
+SMALL = (("check", "a model.inp"), ("tables", "a model.inp"), ("replay", "a model.inp", ""))
+NOT_SMALL = (
+    (), ("check",), ("tables",), ("replay",), ("check", "a", "b"), ("tables", "a", "b"),
+    ("replay", "a"), ("replay", "a", "b", "c"), ("Check", "a"), ("", "a"), ("check a",), ("a", "check"),
+    ("checks", "a"), ("prove", "a", "b"), ("verify", "a", "b", "c"), ("gen", "1"), ("2:check", "a"))
 RT = """#!/bin/sh
-# crates.txt has: low, other, high and the program. Files at the top say how it goes.
+# crates.txt has: low, other, high and the two programs. Files at the top say how it goes.
 echo "$(pwd): $*" >>"$CALLS"
 crate=$(basename "$(pwd)")
 case $1 in
 lib)
     if [ -f "$TOP/slow" ]; then echo $$ >"$CALLS.pid"; sleep 60; fi
+    if [ -f "$TOP/waits" ]; then sleep 0.5; fi
     if [ -f "$TOP/killed-$crate" ]; then kill -9 $$; fi
     if [ -f "$TOP/edit" ]; then sleep 0.05; : >"$TOP/crates/low/src/lib.rt"; rm "$TOP/edit"; fi
     (cd ../.. && echo "$crate:" crates/*/src crates/*/out/rlib/stamp) >>"$CALLS.rooms"
@@ -28,12 +37,14 @@ lib)
     if [ -f out/incremental/work ]; then echo "$crate begins with work" >>"$CALLS.rooms"; fi
     : >out/incremental/work ;;
 run)
+    # the whole tool ends with 2 without words, and with 5 in the tests; the small one with 8 and 6
+    if [ $crate = project_bin ]; then usage=8 status=6; else usage=2 status=5; fi
     mkdir -p out
-    printf '#!/bin/sh\\npwd\\nprintf "<%%s>" "$@"\\nexit 5\\n' >out/swmm_rules_bin
-    chmod +x out/swmm_rules_bin
-    : >out/swmm_rules_bin.stamp
+    printf '#!/bin/sh\\npwd\\nprintf "<%%s>" "$@"\\nexit %s\\n' $status >out/$crate
+    chmod +x out/$crate
+    : >out/$crate.stamp
     if [ -f "$TOP/fails-program" ]; then echo "it does not link"; exit 1; fi
-    exit 2 ;;
+    exit $usage ;;
 esac
 """
 
@@ -47,9 +58,8 @@ class ScriptTest(unittest.TestCase):
             os.makedirs(folder)
         for name in ("swmm-rules", "tools/build-program"):
             shutil.copy(f"{TOP}/{name}", f"{self.top}/{name}")
-        self.write("crates.txt", "# lowest first\nlow: std\nother: low\nhigh: low\n"
-                   "swmm_rules_bin: low high\n")
-        for crate in ("low", "other", "high", "swmm_rules_bin"):
+        self.write("crates.txt", CRATES)
+        for crate in ("low", "other", "high", "swmm_rules_bin", "project_bin"):
             self.write(f"crates/{crate}/src/lib.rt", "")
         self.write("../bin/rt", RT)
         os.chmod(f"{self.room}/bin/rt", 0o755)
@@ -75,7 +85,7 @@ class ScriptTest(unittest.TestCase):
         with open(f"{self.room}/{name}", encoding="utf-8") as file:
             lines = file.read().replace(self.top, "TOP").splitlines()
         os.remove(f"{self.room}/{name}")
-        return [re.sub("^TOP/crates/swmm_rules_bin/out/building-[^/]*", "ROOM", it) for it in lines]
+        return [re.sub("^TOP/crates/[a-z_]*_bin/out/building-[^/]*", "ROOM", it) for it in lines]
 
     def out(self, crate):
         return sorted(os.listdir(f"{self.top}/crates/{crate}/out"))
@@ -111,15 +121,30 @@ class ScriptTest(unittest.TestCase):
         self.assertIn("high begins with work", self.calls("calls.rooms"))
 
     def test_a_room_of_a_build_that_was_killed_is_removed(self):
-        self.write("crates/swmm_rules_bin/out/building-old/said", "half")
+        for program in ("swmm_rules_bin", "project_bin"):
+            self.write(f"crates/{program}/out/building-old/said", "half")
         self.call()
         self.assertEqual(self.out("swmm_rules_bin"), ["swmm_rules_bin", "swmm_rules_bin.stamp"])
+        self.assertEqual(self.out("project_bin"), [])
 
     def test_the_longest_way_up_is_built_first(self):
         self.write("crates.txt", "low: std\nother: std\nhigh: other\nswmm_rules_bin: low high\n")
         self.call()
         firsts = [it.partition(":")[0] for it in self.calls()]
         self.assertLess(firsts.index("ROOM/crates/other"), firsts.index("ROOM/crates/high"))
+
+    def test_a_crate_weighs_what_its_code_does(self):
+        self.write("crates/low/src/lib.rt", "12345")
+        self.write("crates/high/src/lib.rt", "123")
+        self.write("crates/high/src/deep/rows.rt", "4567")
+        for name in ("src/tests.rt", "src/laws.rt", "src/clock_laws.rt", "src/examples.rt",
+                     "specs/Rows.antt", "proofs/Rows.antt"):
+            self.write(f"crates/other/{name}", "long" * 100)
+        self.write("crates/swmm_rules_bin/src/lib.rt", "1")
+        with mock.patch.object(BUILD, "TOP", self.top):
+            _, below = BUILD.crates("swmm_rules_bin")
+            self.assertEqual(BUILD.ways_up(below), {"low": 13, "high": 8, "swmm_rules_bin": 1})
+            self.assertEqual(BUILD.size("other"), 0)
 
     def test_the_second_call_builds_nothing(self):
         self.call()
@@ -165,7 +190,7 @@ class ScriptTest(unittest.TestCase):
         time.sleep(0.02)
         self.write("crates/high/src/lib.rt", "changed")
         self.write("fails-high")
-        ran = self.call("check", "x")
+        ran = self.call("gen", "1")
         self.assertEqual((ran.returncode, ran.stdout), (70, ""))
         self.assertIn("fn high::turned: not proved\n", ran.stderr)
         self.assertNotIn("fn low::new", ran.stderr)
@@ -182,9 +207,11 @@ class ScriptTest(unittest.TestCase):
 
     def test_a_program_that_is_not_built_is_not_run(self):
         self.write("fails-program")
-        ran = self.call("check", "x")
-        self.assertEqual((ran.returncode, ran.stdout), (70, ""))
-        self.assertIn("it does not link\nswmm-rules: swmm_rules_bin was not", ran.stderr)
+        for words, name in ((("check", "x"), "project_bin"), (("gen", "1"), "swmm_rules_bin")):
+            ran = self.call(*words)
+            self.assertEqual((ran.returncode, ran.stdout), (70, ""))
+            self.assertIn(f"it does not link\nswmm-rules: {name} was not", ran.stderr)
+            self.assertEqual(self.out(name), [])
 
     def test_a_machine_without_the_kit_is_told_so(self):
         os.remove(f"{self.room}/bin/rt")
@@ -195,6 +222,71 @@ class ScriptTest(unittest.TestCase):
         self.assertEqual((ran.returncode, ran.stdout, ran.stderr), (
             70, "", "swmm-rules: the program has to be built, and the command rt of the Rattle"
             " kit is not on the PATH\n"))
+
+    def test_the_small_program_is_built_for_its_commands(self):
+        for words in SMALL:
+            shutil.rmtree(f"{self.top}/crates/project_bin/out", ignore_errors=True)
+            ran = self.call(*words)
+            self.assertEqual((ran.returncode, ran.stdout), (
+                6, f"{self.folder}\n" + "".join(f"<{word}>" for word in words)))
+            self.assertRegex(ran.stderr, (
+                r"\Aswmm-rules: proving and building 1 libraries and the program, \d+ at a time;"
+                r" this is done once, and takes a while\n"
+                r"swmm-rules: it is the program of check, tables and replay;"
+                r" prove, verify and gen build the rest when they are first asked for\n"
+                r"swmm-rules: 1 of 1 after \d+ s: low\n"
+                r"swmm-rules: the program is built, after \d+ s\n\Z"))
+            low, program = self.calls()
+            self.assertRegex(low, r"\AROOM/crates/low: lib --jobs [1-9]\d*\Z")
+            self.assertEqual(program, "TOP/crates/project_bin: run")
+            self.assertEqual(self.out("project_bin"), ["project_bin", "project_bin.stamp"])
+        for words in SMALL:
+            ran = self.call(*words)
+            self.assertEqual((ran.returncode, ran.stderr, self.calls()), (6, "", []))
+
+    def test_other_words_build_the_whole_tool(self):
+        self.call("check", "x")
+        self.write("fails-low")
+        for words in NOT_SMALL:
+            ran = self.call(*words)
+            self.assertEqual((ran.returncode, ran.stdout), (70, ""), words)
+            self.assertIn("proving and building 2 libraries and the program", ran.stderr, words)
+            self.assertNotIn("it is the program of", ran.stderr, words)
+        self.assertEqual(self.call("check", "x").returncode, 6)
+
+    def test_the_whole_tool_is_run_wherever_it_is_current(self):
+        self.call("check", "x")
+        self.call()
+        self.calls()
+        for words in SMALL:
+            ran = self.call(*words)
+            self.assertEqual((ran.returncode, ran.stderr, self.calls()), (5, "", []))
+
+    def test_the_small_program_is_run_where_the_whole_tool_is_old(self):
+        self.call("check", "x")
+        self.call()
+        time.sleep(0.02)
+        self.write("crates/high/src/lib.rt", "changed")
+        self.calls()
+        ran = self.call("check", "x")
+        self.assertEqual((ran.returncode, ran.stderr, self.calls()), (6, "", []))
+        time.sleep(0.02)
+        self.write("crates/low/src/lib.rt", "changed")
+        ran = self.call("check", "x")
+        self.assertEqual((ran.returncode, len(self.calls())), (6, 2))
+        self.assertEqual((self.call("gen", "1").returncode, len(self.calls())), (5, 3))
+
+    def test_a_call_that_waited_for_the_whole_tool_runs_it(self):
+        self.write("waits")
+        both = []
+        for words in (("gen", "1"), ("check", "x")):
+            both.append(subprocess.Popen(
+                [f"{self.top}/swmm-rules", *words], cwd=self.folder, env=self.environment(),
+                stdout=subprocess.DEVNULL, stderr=subprocess.DEVNULL))
+            while not os.path.exists(f"{self.room}/calls"):
+                time.sleep(0.01)
+        self.assertEqual([it.wait() for it in both], [5, 5])
+        self.assertEqual(len(self.calls()), 3)
 
     def test_of_two_calls_at_once_one_builds(self):
         both = [subprocess.Popen([f"{self.top}/swmm-rules"], cwd=self.folder,
@@ -216,6 +308,29 @@ class ScriptTest(unittest.TestCase):
         run.send_signal(signal.SIGTERM)
         self.assertEqual(run.wait(), 70)
         self.assertFalse(is_alive(kit))
+
+
+class SharesTest(unittest.TestCase):
+    """How free processors are given out to the crates that can be built."""
+
+    def shares(self, ready, long, free):
+        return list(BUILD.shares(list(ready), set(long), free))
+
+    def test_a_crate_on_a_long_way_gets_two(self):
+        self.assertEqual(self.shares("abc", "ab", 4), [("a", 2), ("b", 2)])
+        self.assertEqual(self.shares("abcd", "a", 4), [("a", 2), ("b", 1), ("c", 1)])
+        self.assertEqual(self.shares("abcd", "c", 4), [("a", 1), ("b", 1), ("c", 2)])
+
+    def test_it_gets_one_where_one_is_free(self):
+        self.assertEqual(self.shares("abc", "abc", 3), [("a", 2), ("b", 1)])
+        self.assertEqual(self.shares("ab", "a", 1), [("a", 1)])
+        self.assertEqual(self.shares("ab", "a", 0), [])
+
+    def test_what_is_left_over_goes_to_the_first(self):
+        self.assertEqual(self.shares("abc", "", 4), [("a", 2), ("b", 1), ("c", 1)])
+        self.assertEqual(self.shares("ab", "a", 8), [("a", 4), ("b", 4)])
+        self.assertEqual(self.shares("a", "", 4), [("a", 4)])
+        self.assertEqual(self.shares("abcde", "", 4), [("a", 1), ("b", 1), ("c", 1), ("d", 1)])
 
 
 def is_alive(process):
