@@ -1,5 +1,5 @@
-//! The program of `check`, `tables` and `replay` over the host's files and streams. It stands on half
-//! of the libraries of the whole tool, so that it is built sooner.
+//! The program of `check`, `tables` and `replay` over the host's files and streams. It stands on
+//! half of the libraries of the whole tool, so that it is built sooner.
 #![tactic(auto)]
 
 use byte_edge::{HostFiles, HostSink};
