@@ -2,19 +2,19 @@
 use exact_fraction::frac::Frac;
 
 /// A curve's place, from 0, among all curves in the order of their first lines.
-#[derive(Clone, Copy, Debug, PartialEq, Eq)]
+#[derive(Clone, Copy, PartialEq, Eq)]
 pub struct CurveNo {
     pub index: u32,
 }
 
 /// A series' place, from 0, among all series in the order of their first lines.
-#[derive(Clone, Copy, Debug, PartialEq, Eq)]
+#[derive(Clone, Copy, PartialEq, Eq)]
 pub struct SeriesNo {
     pub index: u32,
 }
 
 /// The three numbers of a PID action (SWMM 5.2 manual, modulated controls).
-#[derive(Clone, Copy, Debug, PartialEq, Eq)]
+#[derive(Clone, Copy, PartialEq, Eq)]
 pub struct PidSet {
     pub gain: Frac,
     /// The integral time in minutes; 0 for no integral part.
@@ -31,7 +31,7 @@ pub struct PidMemory {
 }
 
 /// Where an action takes its value from (SWMM 5.2 manual, [CONTROLS]).
-#[derive(Clone, Copy, Debug, PartialEq, Eq)]
+#[derive(Clone, Copy, PartialEq, Eq)]
 pub enum What {
     /// A number.
     Constant(Frac),
@@ -45,7 +45,7 @@ pub enum What {
 
 /// An action of a rule on a link, which is given by its place in link order (SWMM 5.2 manual,
 /// [CONTROLS]).
-#[derive(Clone, Copy, Debug, PartialEq, Eq)]
+#[derive(Clone, Copy, PartialEq, Eq)]
 pub struct Action {
     pub link: u32,
     pub what: What,
@@ -68,7 +68,7 @@ pub struct ActionAt {
 }
 
 /// What a reading orders: the value that an action gives to a link.
-#[derive(Clone, Copy, Debug, PartialEq, Eq)]
+#[derive(Clone, Copy, PartialEq, Eq)]
 pub struct Order {
     pub link: u32,
     pub by: ActionAt,

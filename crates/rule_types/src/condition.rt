@@ -40,7 +40,7 @@ impl Side {
 }
 
 /// The right side of a condition (SWMM 5.2 manual, [CONTROLS]).
-#[derive(Clone, Copy, Debug, PartialEq, Eq)]
+#[derive(Clone, Copy, PartialEq, Eq)]
 pub enum Right {
     /// A key, by itself or through a variable.
     Key(Key),
@@ -49,7 +49,7 @@ pub enum Right {
 }
 
 /// A condition of a rule's premise (SWMM 5.2 manual, [CONTROLS]).
-#[derive(Clone, Copy, Debug, PartialEq, Eq)]
+#[derive(Clone, Copy, PartialEq, Eq)]
 pub struct Condition {
     pub left: Side,
     pub rel: Relation,

@@ -8,7 +8,7 @@ use std::alloc::AllocError;
 /// The formula of an expression (SWMM 5.2 manual, [CONTROLS]). A sign `+` and parentheses make no
 /// part of it.
 #[cycle(expr)]
-#[derive(Debug, Drop, PartialEq, Eq)]
+#[derive(Drop, PartialEq, Eq)]
 pub enum Expr {
     Number(Frac),
     /// The variable of this place among the names.

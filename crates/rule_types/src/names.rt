@@ -7,7 +7,7 @@ use list_types::Bytes;
 use std::alloc::AllocError;
 
 /// What a name stands for (SWMM 5.2 manual, [CONTROLS]).
-#[derive(Debug, Drop, PartialEq, Eq)]
+#[derive(Drop, PartialEq, Eq)]
 pub enum NameKind {
     /// A key, declared by VARIABLE.
     Variable(Key),
@@ -16,7 +16,7 @@ pub enum NameKind {
 }
 
 /// A declared name (SWMM 5.2 manual, [CONTROLS]).
-#[derive(Debug, Drop, PartialEq, Eq)]
+#[derive(Drop, PartialEq, Eq)]
 pub struct NameDef {
     pub name: Bytes,
     pub stands_for: NameKind,

@@ -37,7 +37,7 @@ pub struct ObjectNo {
 }
 
 /// The kind of an object, by the section that its line stands in (SWMM 5.2 manual, appendix D).
-#[derive(Clone, Copy, Debug, PartialEq, Eq)]
+#[derive(Clone, Copy, PartialEq, Eq)]
 pub enum ObjectKind {
     Gage,
     Node,

@@ -112,14 +112,14 @@ pub fn earlier_refusal(one: Option<Refusal>, other: Option<Refusal>) -> Option<R
 }
 
 /// Why an input file gives no project.
-#[derive(Debug, Drop, PartialEq, Eq)]
+#[derive(Drop, PartialEq, Eq)]
 pub enum ReadFault {
     Refused(Refusal),
     NoMemory,
 }
 
 /// Why a name is not added to an index.
-#[derive(Clone, Copy, Debug, PartialEq, Eq)]
+#[derive(Clone, Copy, PartialEq, Eq)]
 pub enum AddFault {
     /// The name is there.
     Duplicate,

@@ -7,7 +7,7 @@ use list_types::Items;
 use std::alloc::AllocError;
 
 /// A row of a trace.
-#[derive(Debug, Drop, PartialEq, Eq)]
+#[derive(Drop, PartialEq, Eq)]
 pub struct Row {
     pub moment: Moment,
     /// The number of each input key, or None where it is missing.

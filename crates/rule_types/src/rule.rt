@@ -8,7 +8,7 @@ use list_types::{Bytes, Items};
 use std::alloc::AllocError;
 
 /// A control rule (SWMM 5.2 manual, [CONTROLS]).
-#[derive(Debug, Drop, PartialEq, Eq)]
+#[derive(Drop, PartialEq, Eq)]
 pub struct Rule {
     pub id: Bytes,
     pub conditions: Items<Condition>,

@@ -13,7 +13,7 @@ use list_types::Items;
 use std::alloc::{AllocError, Global};
 
 /// The rules of a file with their names, and the keys and links that they read and act on.
-#[derive(Debug, Drop, PartialEq, Eq)]
+#[derive(Drop, PartialEq, Eq)]
 pub struct Rules {
     /// The rules in the order of the file.
     pub rules: Items<Rule>,
