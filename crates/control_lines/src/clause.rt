@@ -4,7 +4,7 @@ ghost use Rattle.control_lines.specs.Clauses.{is_complete, is_premise as is_in_p
 ghost use Rattle.control_lines.specs.Clauses.{next_stage};
 
 /// What a control line is in the order of clauses (SWMM 5.2 manual, [CONTROLS]).
-#[derive(Clone, Copy, Debug, PartialEq, Eq)]
+#[derive(Clone, Copy, PartialEq, Eq)]
 pub enum Clause {
     /// VARIABLE or EXPRESSION.
     Declaration,
@@ -25,7 +25,7 @@ pub enum Clause {
 }
 
 /// How far a file's clauses have come.
-#[derive(Clone, Copy, Debug, PartialEq, Eq)]
+#[derive(Clone, Copy, PartialEq, Eq)]
 pub enum Stage {
     /// At the start, or after a declaration.
     Outside,

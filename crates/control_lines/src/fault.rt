@@ -9,7 +9,7 @@ use rule_types::{Cause, Refusal};
 use std::alloc::Global;
 
 /// A fault on a line.
-#[derive(Clone, Copy, Debug)]
+#[derive(Clone, Copy)]
 pub struct Fault<'a> {
     pub cause: Cause,
     /// The bytes that are at fault, as written; empty where the whole line is.

@@ -12,21 +12,21 @@ use key_words::{is_simulation, read_object_word, read_relation};
 use rule_types::ObjectWord;
 
 /// A key, and the items behind it.
-#[derive(Clone, Copy, Debug)]
+#[derive(Clone, Copy)]
 pub(crate) struct KeyCut<'a> {
     pub(crate) key: KeyText<'a>,
     pub(crate) rest: &'a [&'a [u8]],
 }
 
 /// A side of a condition, and the items behind it.
-#[derive(Clone, Copy, Debug)]
+#[derive(Clone, Copy)]
 pub(crate) struct SideCut<'a> {
     pub(crate) side: SideText<'a>,
     pub(crate) rest: &'a [&'a [u8]],
 }
 
 /// A relation, and the items behind it.
-#[derive(Clone, Copy, Debug)]
+#[derive(Clone, Copy)]
 pub(crate) struct RelationCut<'a> {
     pub(crate) relation: Relation,
     pub(crate) rest: &'a [&'a [u8]],

@@ -8,7 +8,7 @@ use exact_fraction::relation::Relation;
 use rule_types::ObjectWord;
 
 /// The word that a condition begins with (SWMM 5.2 manual, [CONTROLS]).
-#[derive(Clone, Copy, Debug, PartialEq, Eq)]
+#[derive(Clone, Copy, PartialEq, Eq)]
 pub enum ConditionWord {
     If,
     And,
@@ -16,7 +16,7 @@ pub enum ConditionWord {
 }
 
 /// The word that an action begins with (SWMM 5.2 manual, [CONTROLS]).
-#[derive(Clone, Copy, Debug, PartialEq, Eq)]
+#[derive(Clone, Copy, PartialEq, Eq)]
 pub enum ActionWord {
     Then,
     And,
@@ -24,7 +24,7 @@ pub enum ActionWord {
 }
 
 /// An attribute of an object, with the word and the name of the object.
-#[derive(Clone, Copy, Debug)]
+#[derive(Clone, Copy)]
 pub struct ObjectAttribute<'a> {
     pub word: ObjectWord,
     pub name: &'a [u8],
@@ -32,7 +32,7 @@ pub struct ObjectAttribute<'a> {
 }
 
 /// A key as it is written (SWMM 5.2 manual, [CONTROLS]).
-#[derive(Clone, Copy, Debug)]
+#[derive(Clone, Copy)]
 pub enum KeyText<'a> {
     Object(ObjectAttribute<'a>),
     /// An attribute of SIMULATION.
@@ -40,7 +40,7 @@ pub enum KeyText<'a> {
 }
 
 /// A side of a condition as it is written (SWMM 5.2 manual, [CONTROLS]).
-#[derive(Clone, Copy, Debug)]
+#[derive(Clone, Copy)]
 pub enum SideText<'a> {
     Key(KeyText<'a>),
     /// An item that is neither the word of an object nor SIMULATION: a name or a value.
@@ -48,7 +48,7 @@ pub enum SideText<'a> {
 }
 
 /// A curve or a series as it is written.
-#[derive(Clone, Copy, Debug)]
+#[derive(Clone, Copy)]
 pub struct TableText<'a> {
     /// CURVE or TIMESERIES, in the letters of the line.
     pub word: &'a [u8],
@@ -56,7 +56,7 @@ pub struct TableText<'a> {
 }
 
 /// A PID controller as it is written.
-#[derive(Clone, Copy, Debug)]
+#[derive(Clone, Copy)]
 pub struct PidText<'a> {
     /// PID, in the letters of the line.
     pub word: &'a [u8],
@@ -66,7 +66,7 @@ pub struct PidText<'a> {
 }
 
 /// The value of an action as it is written (SWMM 5.2 manual, modulated controls).
-#[derive(Clone, Copy, Debug)]
+#[derive(Clone, Copy)]
 pub enum ValueText<'a> {
     /// One item: a number or a status.
     Plain(&'a [u8]),
@@ -76,7 +76,7 @@ pub enum ValueText<'a> {
 }
 
 /// A condition as it is written (SWMM 5.2 manual, [CONTROLS]).
-#[derive(Clone, Copy, Debug)]
+#[derive(Clone, Copy)]
 pub struct ConditionText<'a> {
     pub word: ConditionWord,
     pub left: SideText<'a>,
@@ -85,7 +85,7 @@ pub struct ConditionText<'a> {
 }
 
 /// An action as it is written (SWMM 5.2 manual, [CONTROLS]).
-#[derive(Clone, Copy, Debug)]
+#[derive(Clone, Copy)]
 pub struct ActionText<'a> {
     pub word: ActionWord,
     /// The link and what of it is set.
@@ -94,7 +94,7 @@ pub struct ActionText<'a> {
 }
 
 /// What a control line says, as it is written (SWMM 5.2 manual, [CONTROLS]).
-#[derive(Clone, Copy, Debug)]
+#[derive(Clone, Copy)]
 pub enum Statement<'a> {
     /// VARIABLE: a name and its key.
     Variable(&'a [u8], KeyText<'a>),
