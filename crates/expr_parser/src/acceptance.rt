@@ -7,7 +7,7 @@ use crate::source::SourceText;
 use crate::token::{Token, TokenKind};
 
 /// What may come next in a formula.
-#[derive(Clone, Copy, Debug, PartialEq, Eq)]
+#[derive(Clone, Copy, PartialEq, Eq)]
 pub enum Stage {
     /// An operand, with a sign or without.
     Operand,
@@ -24,7 +24,7 @@ pub enum Stage {
 }
 
 /// What a token does.
-#[derive(Clone, Copy, Debug, PartialEq, Eq)]
+#[derive(Clone, Copy, PartialEq, Eq)]
 pub enum Move {
     /// It may not come here.
     Stop,

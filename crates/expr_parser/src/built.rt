@@ -13,16 +13,16 @@ use std::alloc::{AllocError, Global};
 /// The most levels that a formula may have.
 pub(crate) const MOST_LEVELS: usize = 64;
 
-/// A formula, and the count of its levels: a number, a name, an operator, a sign, a power, a
-/// function and a pair of parentheses are one level each.
+/// A formula, in a box as other formulas hold it, and the count of its levels: a number, a name, an
+/// operator, a sign, a power, a function and a pair of parentheses are one level each.
 #[derive(Drop)]
 pub struct Built {
-    pub formula: Expr,
+    pub formula: Boxed<Expr>,
     pub levels: usize,
 }
 
 /// An operator between two operands.
-#[derive(Clone, Copy, Debug, PartialEq, Eq)]
+#[derive(Clone, Copy, PartialEq, Eq)]
 pub enum Operator {
     Add,
     Subtract,
@@ -42,34 +42,46 @@ fn deeper(levels: usize) -> usize
     }
 }
 
+/// A formula of so many levels.
+fn built_of(alloc: Global, formula: Expr, levels: usize) -> Result<Built, AllocError>
+    ensures { IfOk result (λ built. built ≡ record { formula = formula; levels = levels }) }
+{
+    Ok(Built {
+        formula: Boxed::new(alloc, formula)?,
+        levels,
+    })
+}
+
 /// The formula of a name.
 #[tactic(auto, unfolding(crate::specs::Formulas::variable))]
-pub(crate) fn variable(source: &SourceText<'_>, token: Token) -> Built
-    ensures { result ≡ spec.variable source.now token }
+pub(crate) fn variable(
+    alloc: Global,
+    source: &SourceText<'_>,
+    token: Token,
+) -> Result<Built, AllocError>
+    ensures { IfOk result (λ built. built ≡ spec.variable source.now token) }
 {
     let place = match source.variable_of(token) {
         Some(place) => place,
         None => 0,
     };
-    Built {
-        formula: Expr::Name(place),
-        levels: 1,
-    }
+    built_of(alloc, Expr::Name(place), 1)
 }
 
 /// The formula of a number.
 #[tactic(auto, unfolding(crate::specs::Formulas::constant))]
-pub(crate) fn constant(source: &SourceText<'_>, token: Token) -> Built
-    ensures { result ≡ spec.constant source.now token }
+pub(crate) fn constant(
+    alloc: Global,
+    source: &SourceText<'_>,
+    token: Token,
+) -> Result<Built, AllocError>
+    ensures { IfOk result (λ built. built ≡ spec.constant source.now token) }
 {
     let value = match source.number_of(token) {
         Some(value) => value,
         None => Frac::zero(),
     };
-    Built {
-        formula: Expr::Number(value),
-        levels: 1,
-    }
+    built_of(alloc, Expr::Number(value), 1)
 }
 
 /// One level above a formula, which makes no part of it.
@@ -90,10 +102,7 @@ pub(crate) fn negated(alloc: Global, a: Built) -> Result<Built, AllocError>
     ensures { IfOk result (λ built. built ≡ spec.negated a) }
 {
     let Built { formula, levels } = a;
-    Ok(Built {
-        formula: Expr::Neg(Boxed::new(alloc, formula)?),
-        levels: deeper(levels),
-    })
+    built_of(alloc, Expr::Neg(formula), deeper(levels))
 }
 
 /// A power of a formula.
@@ -102,10 +111,7 @@ pub(crate) fn raised(alloc: Global, a: Built, power: u8) -> Result<Built, AllocE
     ensures { IfOk result (λ built. built ≡ spec.raised a power) }
 {
     let Built { formula, levels } = a;
-    Ok(Built {
-        formula: Expr::Pow(Boxed::new(alloc, formula)?, power),
-        levels: deeper(levels),
-    })
+    built_of(alloc, Expr::Pow(formula, power), deeper(levels))
 }
 
 /// A function of a formula.
@@ -114,16 +120,12 @@ pub(crate) fn applied(alloc: Global, function: Function, a: Built) -> Result<Bui
     ensures { IfOk result (λ built. built ≡ spec.applied function a) }
 {
     let Built { formula, levels } = a;
-    let operand = Boxed::new(alloc, formula)?;
-    let formula = match function {
-        Function::Abs => Expr::Abs(operand),
-        Function::Sgn => Expr::Sgn(operand),
-        Function::Step => Expr::Step(operand),
+    let whole = match function {
+        Function::Abs => Expr::Abs(formula),
+        Function::Sgn => Expr::Sgn(formula),
+        Function::Step => Expr::Step(formula),
     };
-    Ok(Built {
-        formula,
-        levels: deeper(levels),
-    })
+    built_of(alloc, whole, deeper(levels))
 }
 
 /// Two formulas with an operator between them. Past the most levels it keeps no tree, so that none
@@ -139,26 +141,19 @@ pub(crate) fn joined(
 {
     let levels = deeper(a.levels.max(b.levels));
     if levels > MOST_LEVELS {
-        return Ok(refused(levels));
+        return refused(alloc, levels);
     }
     let Built { formula: left, .. } = a;
     let Built { formula: right, .. } = b;
-    let left = Boxed::new(alloc, left)?;
-    let right = Boxed::new(alloc, right)?;
-    Ok(Built {
-        formula: operation(operator, left, right),
-        levels,
-    })
+    built_of(alloc, operation(operator, left, right), levels)
 }
 
 /// What stands in the place of a formula of too many levels.
-fn refused(levels: usize) -> Built
-    ensures { result ≡ record { formula = spec.refused_formula; levels = levels } }
+fn refused(alloc: Global, levels: usize) -> Result<Built, AllocError>
+    ensures { IfOk result (λ built. built
+        ≡ record { formula = spec.refused_formula; levels = levels }) }
 {
-    Built {
-        formula: Expr::Number(Frac::zero()),
-        levels,
-    }
+    built_of(alloc, Expr::Number(Frac::zero()), levels)
 }
 
 /// The formula of an operator.

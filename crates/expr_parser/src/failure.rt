@@ -2,7 +2,7 @@
 use std::alloc::AllocError;
 
 /// Why a rule of the grammar reads nothing.
-#[derive(Clone, Copy, Debug, PartialEq, Eq)]
+#[derive(Clone, Copy, PartialEq, Eq)]
 pub enum Failure {
     /// The tokens do not have its form.
     Grammar,

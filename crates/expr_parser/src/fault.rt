@@ -2,7 +2,7 @@
 use inp_text::Span;
 
 /// Why a text is not read as a formula. The causes are looked for in this order.
-#[derive(Clone, Copy, Debug, PartialEq, Eq)]
+#[derive(Clone, Copy, PartialEq, Eq)]
 pub enum ExprCause {
     /// A name without `(` behind it is no variable.
     UnknownName,
@@ -18,7 +18,7 @@ pub enum ExprCause {
 
 /// Why a text is not read as a formula, and where: the first name or number at fault, and the whole
 /// text for BadExpression and TooDeep. NoMemory where memory is out.
-#[derive(Clone, Copy, Debug, PartialEq, Eq)]
+#[derive(Clone, Copy, PartialEq, Eq)]
 pub enum ExprFault {
     Fault { cause: ExprCause, span: Span },
     NoMemory,

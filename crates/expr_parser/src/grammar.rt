@@ -174,7 +174,7 @@ fn atom(
         }
         TokenKind::Number => {
             let token = tokens.take()?;
-            Ok(constant(source, token))
+            Ok(constant(alloc, source, token)?)
         }
         TokenKind::Open => Ok(enclosed(group(alloc, source, tokens, nesting)?)),
         _ => Err(Failure::Grammar),
@@ -202,7 +202,7 @@ fn named(
             }
             None => Err(Failure::Grammar),
         },
-        _ => Ok(variable(source, token)),
+        _ => Ok(variable(alloc, source, token)?),
     }
 }
 

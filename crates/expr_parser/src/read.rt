@@ -85,7 +85,7 @@ fn if_shallow(source: &SourceText<'_>, built: Built) -> Result<Expr, ExprFault>
 {
     let Built { formula, levels } = built;
     if levels <= MOST_LEVELS {
-        Ok(formula)
+        Ok(formula.into_inner())
     } else {
         of_whole(ExprCause::TooDeep, source.len())
     }

@@ -2,7 +2,7 @@
 use inp_text::Span;
 
 /// What a token of a formula is.
-#[derive(Clone, Copy, Debug, PartialEq, Eq)]
+#[derive(Clone, Copy, PartialEq, Eq)]
 pub enum TokenKind {
     Name,
     Number,
@@ -20,7 +20,7 @@ pub enum TokenKind {
 }
 
 /// A token of a formula, and its place in the formula's text.
-#[derive(Clone, Copy, Debug, PartialEq, Eq)]
+#[derive(Clone, Copy, PartialEq, Eq)]
 pub struct Token {
     pub kind: TokenKind,
     pub span: Span,
