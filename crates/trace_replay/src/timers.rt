@@ -23,13 +23,7 @@ pub(crate) fn set_timers(
 {
     for at in (0..links.len()).rev() {
         let timer = timer_of(known, switches[at], start, moment);
-        let old = &links[at];
-        let link = LinkState {
-            setting: old.setting,
-            target: old.target,
-            timer,
-        };
-        links[at] = link;
+        links[at].timer = timer;
     }
 }
 
