@@ -129,21 +129,22 @@ fn write_settings(out: &mut Vec<u8>, settings: &[Frac]) -> Result<(), NoMemory>
         ++ flat_map (λ setting. comma_before (written_value setting)) settings.now) }
 {
     for setting in settings {
-        out.push(b',')?;
-        write_value(out, *setting)?;
+        write_setting(out, *setting)?;
     }
     Ok(())
 }
 
-/// Writes a number.
-fn write_value(out: &mut Vec<u8>, value: Frac) -> Result<(), NoMemory>
-    ensures { OnOk result (out.new.items ≡ out.old.items ++ written_value value) }
+/// Writes a comma and a setting.
+fn write_setting(out: &mut Vec<u8>, setting: Frac) -> Result<(), NoMemory>
+    ensures { OnOk result
+        (out.new.items ≡ out.old.items ++ comma_before (written_value setting)) }
 {
-    if let Some(digit) = digit_of(value) {
-        out.push(digit)?;
+    if let Some(digit) = digit_of(setting) {
+        out.extend_from_slice(&[b',', digit])?;
         return Ok(());
     }
-    let written = value_text(value);
+    let written = value_text(setting);
+    out.push(b',')?;
     out.extend_from_slice(written.as_bytes())?;
     Ok(())
 }
