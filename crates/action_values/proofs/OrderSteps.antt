@@ -8,14 +8,21 @@ use Rattle.std.specs.Prelude.{Contains, slice_get}
 use Rattle.std.specs.List.{AllZip, position_or_len}
 use Rattle.std.proofs.lemmas.Bool.Decides.{nat_tests}
 use Rattle.rule_types.specs.declared.action.ActionAt.{ActionAt}
+use Rattle.exact_fraction.specs.Number.{Rational}
+use Rattle.rule_types.specs.declared.action.Action.{Action}
 use Rattle.rule_types.specs.declared.action.Order.{Order}
 use Rattle.rule_types.specs.declared.action.PidMemory.{PidMemory}
+use Rattle.rule_types.specs.declared.action.What.{What}
+use Rattle.rule_types.specs.declared.action.What.TheVariants.{Constant}
+use Rattle.rule_types.specs.declared.condition.Condition.{Condition}
 use Rattle.rule_types.specs.declared.rules.Rules.{Rules}
 use Rattle.rule_types.specs.declared.state.State.{State}
 use Rattle.rule_types.specs.declared.stop.Stop.{Stop}
 use Rattle.rule_types.specs.Tables.{TableSet}
 use Rattle.rule_meaning.specs.CheckedSteps.{◌>>=◌}
-use Rattle.rule_meaning.specs.Reading.{Choice, order_of, order_then, orders_on}
+use Rattle.rule_meaning.specs.Reading.{Choice, action_worth, conditions_at, order_of, order_then, ordered, orders_on}
+use Rattle.rule_meaning.specs.Settled.{action_at}
+use Rattle.rule_meaning.specs.Worth.{capped, rate_of, what_worth, worth}
 use Rattle.action_values.specs.Links.{ControlledPlaces}
 use Rattle.action_values.specs.Readings.{prepended}
 
@@ -78,6 +85,27 @@ pub added_stop : (x : Rules) (tables : TableSet) (s : State) (m : ℕ → PidMem
 added_stop x tables s m link other at stop old later same is =
     ap (λ (r : Result Order Stop). prepended old (r >>= λ first. later >>= λ more. Ok (first ∷ more)))
     (sym (is ∙ ap (λ l. order_of x tables s m l at) same))
+
+-- ---- numbers
+pub number_is : (x : Rules) (tables : TableSet) (s : State) (m : ℕ → PidMemory) (conditions : List Condition)
+    (action : Action) (q value : Rational) (link : ℕ) (rate : Rational)
+    → action.link ≡ link → action.what ≡ Constant q → Ok value ≡ capped rate (Ok q) → rate ≡ rate_of x link
+    → worth x tables s m conditions action ≡ Ok value
+unfolding worth what_worth
+number_is x tables s m conditions action q value link rate on what is same =
+    (λ i. capped (rate_of x (on i)) (what_worth x tables s m conditions (on i) (what i)))
+    ∙ ap (λ (r : Rational). capped r (Ok q)) (sym same)
+    ∙ sym is
+
+pub number_order : (x : Rules) (tables : TableSet) (s : State) (m : ℕ → PidMemory) (link : ℕ)
+    (at : ActionAt) (action : Action) (value : Rational)
+    → Some action ≡ action_at x.rules at
+    → worth x tables s m (conditions_at x.rules at) action ≡ Ok value
+    → Ok (record { link = link; by = at; value = value }) ≡ order_of x tables s m link at
+unfolding order_of
+number_order x tables s m link at action value there is =
+    sym (ap (λ (a : Option Action). ordered link at (action_worth x tables s m (conditions_at x.rules at) a)) (sym there)
+    ∙ ap (ordered link at) is)
 
 -- ---- the links in a row
 pub none_before : (orders : List Order) (r : Result (List Order) Stop) → orders ≡ []

@@ -1,26 +1,34 @@
 //! The orders that links get.
 ghost use Rattle.std.specs.Prelude.{◌≡◌, ℕ, ◌+◌, ◌<◌, ◌≤◌, Some, Result, List, length, map};
-ghost use Rattle.std.specs.Prelude.{[], ◌∷◌, ◌++◌, slice_get};
+ghost use Rattle.std.specs.Prelude.{[], ◌∷◌, ◌++◌, slice_get, IfSome, Ok};
 ghost use Rattle.std.specs.Vec.{vec_len, vec_capacity};
 ghost use Rattle.rule_types.specs.Fitting.{PairReady};
 ghost use Rattle.rule_types.specs.declared.action.ActionAt.{ActionAt as AnyPair};
+ghost use Rattle.rule_types.specs.Tables.{TableSet};
 ghost use Rattle.rule_types.specs.declared.action.Order.{Order as AnyOrder};
+ghost use Rattle.rule_types.specs.declared.action.PidMemory.{PidMemory as AnyMemory};
+ghost use Rattle.rule_types.specs.declared.condition.Condition.{Condition as AnyCondition};
+ghost use Rattle.rule_types.specs.declared.rules.Rules.{Rules as AnyRules};
+ghost use Rattle.rule_types.specs.declared.state.State.{State as AnyState};
 ghost use Rattle.rule_types.specs.declared.stop.Stop.{Stop as AnyStop};
 ghost use Rattle.rule_meaning.specs.Memories.{memory_of};
 ghost use Rattle.rule_meaning.specs.Reading.{Choice, action_worth, conditions_at, order_of};
 ghost use Rattle.rule_meaning.specs.Reading.{order_then, orders_on};
 ghost use Rattle.rule_meaning.specs.Settled.{action_at};
+ghost use Rattle.rule_meaning.specs.Worth.{rate_of, worth as worth_of};
 ghost use Rattle.action_values.specs.Links.{IsSound, IsLink, ControlledPlaces};
 ghost use Rattle.action_values.specs.Readings.{told, prepended, step_then};
 
 use crate::link::{LinkFacts, facts_at, facts_of};
-use crate::worth::worth;
+use crate::worth::{capped, worth};
 use curves_series::Tables;
 use exact_fraction::error::Overflow;
 use exact_fraction::frac::Frac;
 use list_types::push_within_capacity;
 use premise_eval::Values;
-use rule_types::{ActionAt, Order, PidMemory, Rules, State, Stop, StopCause, StopPlace};
+use rule_types::{
+    Action, ActionAt, Order, PidMemory, Rules, State, Stop, StopCause, StopPlace, What,
+};
 
 /// The orders of the pairs that the controlled links take, in the order of links: `firsts` has for
 /// each of them its pair, or None, and `places` its place among the tracked links. The first
@@ -114,12 +122,49 @@ fn add_pair(
 {
     let link = rules.controlled.as_slice()[i];
     let facts = facts_at(rules, state, i, places[i]);
+    if let Some(order) = constant_order(rules, link, &facts.rate, at) {
+        add(orders, order);
+        return Ok(());
+    }
     match order_of(rules, tables, state, values, before, link, &facts, at) {
         Ok(order) => {
             add(orders, order);
             Ok(())
         }
         Err(stop) => Err(stop),
+    }
+}
+
+/// The order that a pair gives to a link of a rate where its action is a number on that link, which
+/// is the same at every state. None for all other pairs.
+fn constant_order(rules: &Rules, link: u32, rate: &Frac, at: &ActionAt) -> Option<Order>
+    requires rate { rate.now ≡ rate_of rules.now link }
+    ensures value { IfSome result (λ order. (tables : TableSet) (s : AnyState) (m : ℕ → AnyMemory)
+        → Ok order ≡ order_of rules.now tables s m link at.now) }
+{
+    let action = rules.action_at(at)?;
+    let value = constant_worth(action, link, rate)?;
+    Some(Order {
+        link,
+        by: *at,
+        value,
+    })
+}
+
+/// The value of an action that is a number, on a link of a rate. None for all others.
+fn constant_worth(action: &Action, link: u32, rate: &Frac) -> Option<Frac>
+    ensures value { IfSome result (λ value. (x : AnyRules) (tables : TableSet) (s : AnyState)
+        (m : ℕ → AnyMemory) (conditions : List AnyCondition) → rate.now ≡ rate_of x link
+        → worth_of x tables s m conditions action.now ≡ Ok value) }
+{
+    if action.link != link {
+        return None;
+    }
+    match &action.what {
+        What::Constant(number) => Some(capped(rate, *number)),
+        What::Curve(_) => None,
+        What::Series(_) => None,
+        What::Pid(_, _) => None,
     }
 }
 

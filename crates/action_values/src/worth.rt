@@ -45,7 +45,7 @@ pub(crate) fn worth(
 }
 
 /// A value on a link of this rate.
-fn capped(rate: &Frac, value: Frac) -> Frac
+pub(crate) fn capped(rate: &Frac, value: Frac) -> Frac
     ensures value { Ok result ≡ capped rate.now (Ok value) }
 {
     if rate.is_zero() {

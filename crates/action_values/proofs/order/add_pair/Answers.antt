@@ -19,9 +19,16 @@ order_of-requires-clause-link c =
 pub returns-in-Ok-clause-added : goal.returns-in-Ok-clause-added
 returns-in-Ok-clause-added c = λ link later is.
     added_ok c.args.rules.now c.args.tables.now c.args.state.now (memory_of c.args.before.now) (get_or c.as_slice.result.now c.args.i 0) link c.args.at.now c.in-Ok.order
+    c.args.orders.now.items c.add-in-Ok.new.orders.items later
+    (link_is c.args.rules.now c.args.i link c.as_slice.result.now c.requires.within c.as_slice.ensures.value is)
+    c.in-Ok.ensures.value c.add-in-Ok.ensures.items
+
+pub returns-in-Some-clause-added : goal.returns-in-Some-clause-added
+returns-in-Some-clause-added c = λ link later is.
+    added_ok c.args.rules.now c.args.tables.now c.args.state.now (memory_of c.args.before.now) (get_or c.as_slice.result.now c.args.i 0) link c.args.at.now c.in-Some.order
     c.args.orders.now.items c.add.new.orders.items later
     (link_is c.args.rules.now c.args.i link c.as_slice.result.now c.requires.within c.as_slice.ensures.value is)
-    c.in-Ok.ensures.value c.add.ensures.items
+    (c.in-Some.ensures.value c.args.tables.now c.args.state.now (memory_of c.args.before.now)) c.add.ensures.items
 
 pub returns-in-Err-clause-added : goal.returns-in-Err-clause-added
 returns-in-Err-clause-added c = λ link later is.
