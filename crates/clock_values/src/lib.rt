@@ -7,8 +7,6 @@ pub mod laws;
 mod relations;
 mod seconds;
 mod steps;
-#[cfg(test)]
-mod tests;
 mod window;
 
 pub use clock::{clock_value, hours_of, whole};

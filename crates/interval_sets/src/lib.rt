@@ -16,6 +16,3 @@ pub use cut_list::CutList;
 pub use interval::{Bound, Interval};
 pub use interval_set::IntervalSet;
 pub use steps::Steps;
-
-#[cfg(test)]
-mod tests;

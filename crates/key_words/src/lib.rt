@@ -10,8 +10,6 @@ pub mod laws;
 mod objects;
 mod relations;
 mod status;
-#[cfg(test)]
-mod tests;
 
 pub use attributes::{read_attribute, read_attribute_of, write_attribute};
 pub use clock::{clock_attribute_text, read_clock_attribute};

@@ -5,8 +5,6 @@
 mod boxed;
 mod items;
 mod room;
-#[cfg(test)]
-mod tests;
 
 pub use boxed::Boxed;
 pub use items::{Bytes, Items};

@@ -7,8 +7,6 @@ mod piece_lists;
 mod sides;
 mod spans;
 mod starts;
-#[cfg(test)]
-mod tests;
 mod turns;
 
 pub use piece_lists::{Cuts, moment_cuts};

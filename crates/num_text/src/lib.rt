@@ -19,7 +19,5 @@ pub mod short_text;
 mod significand;
 mod spelled;
 pub mod steps;
-#[cfg(test)]
-mod tests;
 pub mod times;
 pub mod values;

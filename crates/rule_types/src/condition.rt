@@ -78,27 +78,3 @@ pub fn takes_half_step(left: &Side, relation: &Relation) -> bool
 {
     left.is_time() && is_equality(relation)
 }
-
-#[cfg(test)]
-mod tests {
-    use super::*;
-    use crate::key::{Attr, ClockAttr};
-    use crate::object::{ObjectNo, Space};
-
-    #[test]
-    fn a_time_on_the_left_and_an_equality_take_half_a_step(
-        rt: HostRuntime,
-    ) -> Result<(), std::alloc::AllocError> {
-        let gate = ObjectNo {
-            space: Space::Links,
-            index: 2,
-        };
-        let timer = Side::Key(Key::Object(gate, Attr::TimeClosed));
-        assert!(rt; takes_half_step(&timer, &Relation::Ne));
-        assert!(rt; !takes_half_step(&timer, &Relation::Ge));
-        let date = Side::Key(Key::Clock(ClockAttr::Date));
-        assert!(rt; !takes_half_step(&date, &Relation::Eq));
-        assert!(rt; !takes_half_step(&Side::Expr(0), &Relation::Eq));
-        Ok(())
-    }
-}

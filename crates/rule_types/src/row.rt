@@ -35,21 +35,3 @@ impl Clone for Row {
         })
     }
 }
-
-#[cfg(test)]
-mod tests {
-    use super::*;
-
-    #[test]
-    fn a_copy_equals_its_row(rt: HostRuntime) -> Result<(), AllocError> {
-        let Some(moment) = Moment::make(300) else {
-            return Err(AllocError);
-        };
-        let inputs = Items::from_vec(vec![in rt.alloc(); Some(Frac::one()), None]?);
-        let row = Row { moment, inputs };
-        let copy = row.clone()?;
-        assert!(rt; copy.is_same(&row));
-        assert!(rt; copy.inputs.len() == 2);
-        Ok(())
-    }
-}

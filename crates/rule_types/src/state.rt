@@ -43,32 +43,3 @@ impl Clone for State {
         })
     }
 }
-
-#[cfg(test)]
-mod tests {
-    use super::*;
-
-    #[test]
-    fn a_copy_equals_its_state(rt: HostRuntime) -> Result<(), AllocError> {
-        let link = LinkState {
-            setting: Frac::one(),
-            target: Frac::zero(),
-            timer: Frac::one(),
-        };
-        let Some(moment) = Moment::make(300) else {
-            return Err(AllocError);
-        };
-        let inputs = Items::from_vec(vec![in rt.alloc(); Some(Frac::one()), None]?);
-        let state = State {
-            moment,
-            start: moment,
-            step: Frac::one(),
-            inputs,
-            links: Items::from_vec(vec![in rt.alloc(); link]?),
-        };
-        let copy = state.clone()?;
-        assert!(rt; copy == state);
-        assert!(rt; copy.inputs.len() == 2);
-        Ok(())
-    }
-}
