@@ -4,7 +4,7 @@ ghost use Rattle.rule_types.specs.Refusals.{earlier};
 
 use byte_edge::NoMemory;
 use list_types::Bytes;
-use std::alloc::{AllocError, Global};
+use std::alloc::Global;
 
 /// Why a line of the input file is refused. On one line the causes are looked for in this order,
 /// and numbered in it from 1.
@@ -124,17 +124,4 @@ pub enum AddFault {
     /// The name is there.
     Duplicate,
     NoMemory,
-}
-
-/// A copy takes memory, and equals its refusal.
-impl Clone for Refusal {
-    ghost is_clone = { λ refusal copy. copy ≡ refusal };
-
-    fn clone(&self) -> Result<Refusal, AllocError> {
-        Ok(Refusal {
-            line: self.line,
-            cause: self.cause,
-            token: self.token.clone()?,
-        })
-    }
 }

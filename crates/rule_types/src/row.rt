@@ -4,7 +4,6 @@ ghost use Rattle.std.specs.Prelude.{◌≡◌, ◌↔◌, IsTrue};
 use exact_fraction::frac::Frac;
 use exact_fraction::moment::Moment;
 use list_types::Items;
-use std::alloc::AllocError;
 
 /// A row of a trace.
 #[derive(Drop, PartialEq, Eq)]
@@ -21,17 +20,5 @@ impl Row {
         ensures value { IsTrue result ↔ (self.now ≡ other.now) }
     {
         self == other
-    }
-}
-
-/// A copy takes memory, and equals its row.
-impl Clone for Row {
-    ghost is_clone = { λ row copy. copy ≡ row };
-
-    fn clone(&self) -> Result<Row, AllocError> {
-        Ok(Row {
-            moment: self.moment,
-            inputs: self.inputs.clone()?,
-        })
     }
 }

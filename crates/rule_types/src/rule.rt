@@ -5,7 +5,6 @@ use crate::action::{Action, Branch};
 use crate::condition::Condition;
 use exact_fraction::frac::Frac;
 use list_types::{Bytes, Items};
-use std::alloc::AllocError;
 
 /// A control rule (SWMM 5.2 manual, [CONTROLS]).
 #[derive(Drop, PartialEq, Eq)]
@@ -29,20 +28,5 @@ impl Rule {
             Branch::Then => &self.then_actions,
             Branch::Otherwise => &self.else_actions,
         }
-    }
-}
-
-/// A copy takes memory, and equals its rule.
-impl Clone for Rule {
-    ghost is_clone = { λ rule copy. copy ≡ rule };
-
-    fn clone(&self) -> Result<Rule, AllocError> {
-        Ok(Rule {
-            id: self.id.clone()?,
-            conditions: self.conditions.clone()?,
-            then_actions: self.then_actions.clone()?,
-            else_actions: self.else_actions.clone()?,
-            priority: self.priority,
-        })
     }
 }

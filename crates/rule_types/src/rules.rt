@@ -1,16 +1,14 @@
 //! All rules of a file.
-ghost use Rattle.std.specs.Prelude.{◌≡◌, IfOk};
+ghost use Rattle.std.specs.Prelude.{◌≡◌};
 ghost use Rattle.std.specs.Option.{option_copied};
 
 use crate::action::{Action, ActionAt};
 use crate::key::Key;
 use crate::names::NameDef;
 use crate::rule::Rule;
-use byte_edge::NoMemory;
 use exact_fraction::frac::Frac;
 use exact_fraction::moment::Moment;
 use list_types::Items;
-use std::alloc::{AllocError, Global};
 
 /// The rules of a file with their names, and the keys and links that they read and act on.
 #[derive(Drop, PartialEq, Eq)]
@@ -40,27 +38,6 @@ pub struct Rules {
     pub rule_step: Frac,
 }
 
-/// A copy takes memory, and equals its rules.
-impl Clone for Rules {
-    ghost is_clone = { λ rules copy. copy ≡ rules };
-
-    fn clone(&self) -> Result<Rules, AllocError> {
-        Ok(Rules {
-            rules: self.rules.clone()?,
-            names: self.names.clone()?,
-            input_keys: self.input_keys.clone()?,
-            tracked: self.tracked.clone()?,
-            controlled: self.controlled.clone()?,
-            pumps: self.pumps.clone()?,
-            initial: self.initial.clone()?,
-            rates: self.rates.clone()?,
-            start: self.start,
-            routing_step: self.routing_step,
-            rule_step: self.rule_step,
-        })
-    }
-}
-
 impl Rules {
     ghost use Rattle.rule_types.specs.Reading.{action_at as action_of};
 
@@ -71,16 +48,5 @@ impl Rules {
     {
         let rule = self.rules.get(at.rule as usize)?;
         rule.actions(at.branch).get(at.action as usize)
-    }
-
-    /// Rules that equal these: NoMemory only where memory is wanting. It costs time by the size of
-    /// the rules.
-    pub fn copy(&self, _alloc: Global) -> Result<Rules, NoMemory>
-        ensures value { IfOk result (λ copy. copy ≡ self.now) }
-    {
-        match self.clone() {
-            Ok(copy) => Ok(copy),
-            Err(_) => Err(NoMemory),
-        }
     }
 }

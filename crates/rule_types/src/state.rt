@@ -1,10 +1,7 @@
 //! States of the network, at which rules are read.
-ghost use Rattle.std.specs.Prelude.{◌≡◌};
-
 use exact_fraction::frac::Frac;
 use exact_fraction::moment::Moment;
 use list_types::Items;
-use std::alloc::AllocError;
 
 /// The state of a tracked link.
 #[derive(Clone, Copy, Debug, PartialEq, Eq)]
@@ -27,19 +24,4 @@ pub struct State {
     pub inputs: Items<Option<Frac>>,
     /// The state of each tracked link.
     pub links: Items<LinkState>,
-}
-
-/// A copy takes memory, and equals its state.
-impl Clone for State {
-    ghost is_clone = { λ state copy. copy ≡ state };
-
-    fn clone(&self) -> Result<State, AllocError> {
-        Ok(State {
-            moment: self.moment,
-            start: self.start,
-            step: self.step,
-            inputs: self.inputs.clone()?,
-            links: self.links.clone()?,
-        })
-    }
 }
