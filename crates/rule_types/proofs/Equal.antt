@@ -8,7 +8,6 @@ use Rattle.std.proofs.lemmas.Bool.Decides.{Decides-like, Decides-and, Decides-eq
 use Rattle.std.proofs.lemmas.Slice.Eq.{slice_eq-Decides}
 use Rattle.exact_fraction.proofs.PublicLaws.{equality-fraction, equality-moment, equality-relation}
 use Rattle.rule_types.proofs.EqualParts.{Option-sames}
-use Rattle.rule_types.proofs.SameFormula.{Expr-sames}
 use Rattle.rule_types.proofs.KeyPlaces.{key_place-injective}
 use Rattle.rule_types.specs.KeyOrder.{key_place}
 use Rattle.rule_types.specs.declared.object.Space.{Space}
@@ -51,15 +50,6 @@ use Rattle.rule_types.specs.declared.action.ActionAt.{ActionAt}
 use Rattle.rule_types.specs.contracts.action.ActionAtPartialEq.TheImpl as ActionAtEq
 use Rattle.rule_types.specs.declared.action.Order.{Order}
 use Rattle.rule_types.specs.contracts.action.OrderPartialEq.TheImpl as OrderEq
-use Rattle.rule_types.specs.declared.rule.Rule.{Rule}
-use Rattle.rule_types.specs.contracts.rule.RulePartialEq.TheImpl as RuleEq
-use Rattle.rule_types.specs.declared.names.NameKind.{NameKind}
-use Rattle.rule_types.specs.contracts.names.NameKindPartialEq.TheImpl as NameKindEq
-use Rattle.rule_types.specs.declared.names.NameKind.TheVariants as kind
-use Rattle.rule_types.specs.declared.names.NameDef.{NameDef}
-use Rattle.rule_types.specs.contracts.names.NameDefPartialEq.TheImpl as NameDefEq
-use Rattle.rule_types.specs.declared.rules.Rules.{Rules}
-use Rattle.rule_types.specs.contracts.rules.RulesPartialEq.TheImpl as RulesEq
 use Rattle.rule_types.specs.declared.state.LinkState.{LinkState}
 use Rattle.rule_types.specs.contracts.state.LinkStatePartialEq.TheImpl as LinkStateEq
 use Rattle.rule_types.specs.declared.state.State.{State}
@@ -186,32 +176,6 @@ Order-sames a b =
     (λ e. (ap (λ (x : Order). x.link) e, (ap (λ (x : Order). x.by) e, ap (λ (x : Order). x.value) e)))
     (Decides-and _ _ (Decides-eqb a.link b.link) (Decides-and _ _ (ActionAt-sames a.by b.by) (equality-fraction a.value b.value)))
 
-pub Rule-sames : (a b : Rule) → Decides (RuleEq.eq-value.it a b) (a ≡ b)
-Rule-sames a b =
-    Decides-like (RuleEq.eq-value.it a b)
-    (λ p i. record { id = p.0 i; conditions = p.1.0 i; then_actions = p.1.1.0 i; else_actions = p.1.1.1.0 i; priority = p.1.1.1.1 i })
-    (λ e. (ap (λ (x : Rule). x.id) e, (ap (λ (x : Rule). x.conditions) e, (ap (λ (x : Rule). x.then_actions) e, (ap (λ (x : Rule). x.else_actions) e, ap (λ (x : Rule). x.priority) e)))))
-    (Decides-and _ _ (slice_eq-Decides Decides-eqb a.id b.id _ refl) (Decides-and _ _ (slice_eq-Decides Condition-sames a.conditions b.conditions _ refl) (Decides-and _ _ (slice_eq-Decides Action-sames a.then_actions b.then_actions _ refl) (Decides-and _ _ (slice_eq-Decides Action-sames a.else_actions b.else_actions _ refl) (Option-sames equality-fraction a.priority b.priority)))))
-
-pub NameKind-sames : (a b : NameKind) → Decides (NameKindEq.eq-value.it a b) (a ≡ b)
-NameKind-sames (kind.Variable x) (kind.Variable y) = Decides-like _ (ap kind.Variable) (λ e. cc) (Key-sames x y)
-NameKind-sames (kind.Formula x) (kind.Formula y) = Decides-like _ (ap kind.Formula) (λ e. cc) (Expr-sames x y)
-NameKind-sames a b = search rules
-
-pub NameDef-sames : (a b : NameDef) → Decides (NameDefEq.eq-value.it a b) (a ≡ b)
-NameDef-sames a b =
-    Decides-like (NameDefEq.eq-value.it a b)
-    (λ p i. record { name = p.0 i; stands_for = p.1 i })
-    (λ e. (ap (λ (x : NameDef). x.name) e, ap (λ (x : NameDef). x.stands_for) e))
-    (Decides-and _ _ (slice_eq-Decides Decides-eqb a.name b.name _ refl) (NameKind-sames a.stands_for b.stands_for))
-
-pub Rules-sames : (a b : Rules) → Decides (RulesEq.eq-value.it a b) (a ≡ b)
-Rules-sames a b =
-    Decides-like (RulesEq.eq-value.it a b)
-    (λ p i. record { rules = p.0 i; names = p.1.0 i; input_keys = p.1.1.0 i; tracked = p.1.1.1.0 i; controlled = p.1.1.1.1.0 i; pumps = p.1.1.1.1.1.0 i; initial = p.1.1.1.1.1.1.0 i; rates = p.1.1.1.1.1.1.1.0 i; start = p.1.1.1.1.1.1.1.1.0 i; routing_step = p.1.1.1.1.1.1.1.1.1.0 i; rule_step = p.1.1.1.1.1.1.1.1.1.1 i })
-    (λ e. (ap (λ (x : Rules). x.rules) e, (ap (λ (x : Rules). x.names) e, (ap (λ (x : Rules). x.input_keys) e, (ap (λ (x : Rules). x.tracked) e, (ap (λ (x : Rules). x.controlled) e, (ap (λ (x : Rules). x.pumps) e, (ap (λ (x : Rules). x.initial) e, (ap (λ (x : Rules). x.rates) e, (ap (λ (x : Rules). x.start) e, (ap (λ (x : Rules). x.routing_step) e, ap (λ (x : Rules). x.rule_step) e)))))))))))
-    (Decides-and _ _ (slice_eq-Decides Rule-sames a.rules b.rules _ refl) (Decides-and _ _ (slice_eq-Decides NameDef-sames a.names b.names _ refl) (Decides-and _ _ (slice_eq-Decides Key-sames a.input_keys b.input_keys _ refl) (Decides-and _ _ (slice_eq-Decides Decides-eqb a.tracked b.tracked _ refl) (Decides-and _ _ (slice_eq-Decides Decides-eqb a.controlled b.controlled _ refl) (Decides-and _ _ (slice_eq-Decides booleans_Decides a.pumps b.pumps _ refl) (Decides-and _ _ (slice_eq-Decides equality-fraction a.initial b.initial _ refl) (Decides-and _ _ (slice_eq-Decides equality-fraction a.rates b.rates _ refl) (Decides-and _ _ (Option-sames equality-moment a.start b.start) (Decides-and _ _ (equality-fraction a.routing_step b.routing_step) (equality-fraction a.rule_step b.rule_step)))))))))))
-
 pub LinkState-sames : (a b : LinkState) → Decides (LinkStateEq.eq-value.it a b) (a ≡ b)
 LinkState-sames a b =
     Decides-like (LinkStateEq.eq-value.it a b)
@@ -283,4 +247,4 @@ pub AddFault-sames : (a b : AddFault) → Decides (AddFaultEq.eq-value.it a b) (
 AddFault-sames a b = search rules
 
 -- what `==` says of each type, for a caller's `using`
-pub ruleset sames = (equality-fraction, equality-moment, equality-relation, Expr-sames, Space-sames, ObjectKind-sames, ObjectWord-sames, ObjectNo-sames, Attr-sames, ClockAttr-sames, Key-sames, Side-sames, Right-sames, Condition-sames, CurveNo-sames, SeriesNo-sames, PidSet-sames, PidMemory-sames, What-sames, Action-sames, Branch-sames, ActionAt-sames, Order-sames, Rule-sames, NameKind-sames, NameDef-sames, Rules-sames, LinkState-sames, State-sames, Row-sames, Point-sames, StopCause-sames, StopPlace-sames, Stop-sames, ReadingEnd-sames, RowStop-sames, Cause-sames, Refusal-sames, ReadFault-sames, AddFault-sames)
+pub ruleset sames = (equality-fraction, equality-moment, equality-relation, Space-sames, ObjectKind-sames, ObjectWord-sames, ObjectNo-sames, Attr-sames, ClockAttr-sames, Key-sames, Side-sames, Right-sames, Condition-sames, CurveNo-sames, SeriesNo-sames, PidSet-sames, PidMemory-sames, What-sames, Action-sames, Branch-sames, ActionAt-sames, Order-sames, LinkState-sames, State-sames, Row-sames, Point-sames, StopCause-sames, StopPlace-sames, Stop-sames, ReadingEnd-sames, RowStop-sames, Cause-sames, Refusal-sames, ReadFault-sames, AddFault-sames)

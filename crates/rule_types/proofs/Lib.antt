@@ -8,5 +8,4 @@ pub mod Opened
 pub mod Refusals
 pub mod RuleCases
 pub mod RuleFaults
-pub mod SameFormula
 pub mod Station

@@ -2,8 +2,7 @@
 -- LAW-CLAUSE after it.
 use Rattle.std.specs.Prelude.{◌≡◌}
 use Rattle.std.specs.Bool.{Decides}
-use Rattle.rule_types.proofs.Equal.{Space-sames, ObjectKind-sames, ObjectWord-sames, ObjectNo-sames, Attr-sames, ClockAttr-sames, Key-sames, Side-sames, Right-sames, Condition-sames, CurveNo-sames, SeriesNo-sames, PidSet-sames, What-sames, Action-sames, Branch-sames, ActionAt-sames, Rule-sames, NameKind-sames, NameDef-sames, Rules-sames, PidMemory-sames, LinkState-sames, State-sames, Row-sames, Point-sames, Order-sames, StopCause-sames, StopPlace-sames, Stop-sames, ReadingEnd-sames, RowStop-sames, Cause-sames, Refusal-sames, ReadFault-sames, AddFault-sames}
-use Rattle.rule_types.proofs.SameFormula.{Expr-sames}
+use Rattle.rule_types.proofs.Equal.{Space-sames, ObjectKind-sames, ObjectWord-sames, ObjectNo-sames, Attr-sames, ClockAttr-sames, Key-sames, Side-sames, Right-sames, Condition-sames, CurveNo-sames, SeriesNo-sames, PidSet-sames, What-sames, Action-sames, Branch-sames, ActionAt-sames, PidMemory-sames, LinkState-sames, State-sames, Row-sames, Point-sames, Order-sames, StopCause-sames, StopPlace-sames, Stop-sames, ReadingEnd-sames, RowStop-sames, Cause-sames, Refusal-sames, ReadFault-sames, AddFault-sames}
 use Rattle.rule_types.specs.declared.object.Space.{Space}
 use Rattle.rule_types.specs.contracts.object.SpacePartialEq.TheImpl as SpaceEq
 use Rattle.rule_types.specs.declared.object.ObjectKind.{ObjectKind}
@@ -38,16 +37,6 @@ use Rattle.rule_types.specs.declared.action.Branch.{Branch}
 use Rattle.rule_types.specs.contracts.action.BranchPartialEq.TheImpl as BranchEq
 use Rattle.rule_types.specs.declared.action.ActionAt.{ActionAt}
 use Rattle.rule_types.specs.contracts.action.ActionAtPartialEq.TheImpl as ActionAtEq
-use Rattle.rule_types.specs.declared.rule.Rule.{Rule}
-use Rattle.rule_types.specs.contracts.rule.RulePartialEq.TheImpl as RuleEq
-use Rattle.rule_types.specs.declared.expr.Expr.{Expr}
-use Rattle.rule_types.specs.contracts.expr.ExprPartialEq.TheImpl as ExprEq
-use Rattle.rule_types.specs.declared.names.NameKind.{NameKind}
-use Rattle.rule_types.specs.contracts.names.NameKindPartialEq.TheImpl as NameKindEq
-use Rattle.rule_types.specs.declared.names.NameDef.{NameDef}
-use Rattle.rule_types.specs.contracts.names.NameDefPartialEq.TheImpl as NameDefEq
-use Rattle.rule_types.specs.declared.rules.Rules.{Rules}
-use Rattle.rule_types.specs.contracts.rules.RulesPartialEq.TheImpl as RulesEq
 use Rattle.rule_types.specs.declared.action.PidMemory.{PidMemory}
 use Rattle.rule_types.specs.contracts.action.PidMemoryPartialEq.TheImpl as PidMemoryEq
 use Rattle.rule_types.specs.declared.state.LinkState.{LinkState}
@@ -150,21 +139,6 @@ equal_rules-branch = Branch-sames
 pub equal_rules-action_at : (a b : ActionAt) → Decides (ActionAtEq.eq-value.it a b) (a ≡ b)
 equal_rules-action_at = ActionAt-sames
 
-pub equal_rules-rule : (a b : Rule) → Decides (RuleEq.eq-value.it a b) (a ≡ b)
-equal_rules-rule = Rule-sames
-
-pub equal_rules-expr : (a b : Expr) → Decides (ExprEq.eq-value.it a b) (a ≡ b)
-equal_rules-expr = Expr-sames
-
-pub equal_rules-name_kind : (a b : NameKind) → Decides (NameKindEq.eq-value.it a b) (a ≡ b)
-equal_rules-name_kind = NameKind-sames
-
-pub equal_rules-name_def : (a b : NameDef) → Decides (NameDefEq.eq-value.it a b) (a ≡ b)
-equal_rules-name_def = NameDef-sames
-
-pub equal_rules-rules : (a b : Rules) → Decides (RulesEq.eq-value.it a b) (a ≡ b)
-equal_rules-rules = Rules-sames
-
 pub equal_states-pid_memory : (a b : PidMemory) → Decides (PidMemoryEq.eq-value.it a b) (a ≡ b)
 equal_states-pid_memory = PidMemory-sames
 
@@ -211,4 +185,4 @@ pub equal_answers-add_fault : (a b : AddFault) → Decides (AddFaultEq.eq-value.
 equal_answers-add_fault = AddFault-sames
 
 -- what `==` of each type tells, for a caller's `using`
-pub ruleset sames = (equal_keys-space, equal_keys-object_kind, equal_keys-object_word, equal_keys-object_no, equal_keys-attr, equal_keys-clock_attr, equal_keys-key, equal_rules-side, equal_rules-right, equal_rules-condition, equal_rules-curve_no, equal_rules-series_no, equal_rules-pid_set, equal_rules-what, equal_rules-action, equal_rules-branch, equal_rules-action_at, equal_rules-rule, equal_rules-expr, equal_rules-name_kind, equal_rules-name_def, equal_rules-rules, equal_states-pid_memory, equal_states-link_state, equal_states-state, equal_states-row, equal_points-point, equal_answers-order, equal_answers-stop_cause, equal_answers-stop_place, equal_answers-stop, equal_answers-reading_end, equal_answers-row_stop, equal_answers-cause, equal_answers-refusal, equal_answers-read_fault, equal_answers-add_fault)
+pub ruleset sames = (equal_keys-space, equal_keys-object_kind, equal_keys-object_word, equal_keys-object_no, equal_keys-attr, equal_keys-clock_attr, equal_keys-key, equal_rules-side, equal_rules-right, equal_rules-condition, equal_rules-curve_no, equal_rules-series_no, equal_rules-pid_set, equal_rules-what, equal_rules-action, equal_rules-branch, equal_rules-action_at, equal_states-pid_memory, equal_states-link_state, equal_states-state, equal_states-row, equal_points-point, equal_answers-order, equal_answers-stop_cause, equal_answers-stop_place, equal_answers-stop, equal_answers-reading_end, equal_answers-row_stop, equal_answers-cause, equal_answers-refusal, equal_answers-read_fault, equal_answers-add_fault)

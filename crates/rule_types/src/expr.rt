@@ -5,7 +5,7 @@ use list_types::Boxed;
 /// The formula of an expression (SWMM 5.2 manual, [CONTROLS]). A sign `+` and parentheses make no
 /// part of it.
 #[cycle(expr)]
-#[derive(Drop, PartialEq, Eq)]
+#[derive(Drop)]
 pub enum Expr {
     Number(Frac),
     /// The variable of this place among the names.

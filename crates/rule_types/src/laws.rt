@@ -42,11 +42,6 @@ ghost use Rattle.rule_types.specs.contracts.action.WhatPartialEq.TheImpl as What
 ghost use Rattle.rule_types.specs.contracts.action.ActionPartialEq.TheImpl as ActionEq;
 ghost use Rattle.rule_types.specs.contracts.action.BranchPartialEq.TheImpl as BranchEq;
 ghost use Rattle.rule_types.specs.contracts.action.ActionAtPartialEq.TheImpl as ActionAtEq;
-ghost use Rattle.rule_types.specs.contracts.rule.RulePartialEq.TheImpl as RuleEq;
-ghost use Rattle.rule_types.specs.contracts.expr.ExprPartialEq.TheImpl as ExprEq;
-ghost use Rattle.rule_types.specs.contracts.names.NameKindPartialEq.TheImpl as NameKindEq;
-ghost use Rattle.rule_types.specs.contracts.names.NameDefPartialEq.TheImpl as NameDefEq;
-ghost use Rattle.rule_types.specs.contracts.rules.RulesPartialEq.TheImpl as RulesEq;
 ghost use Rattle.rule_types.specs.contracts.action.PidMemoryPartialEq.TheImpl as PidMemoryEq;
 ghost use Rattle.rule_types.specs.contracts.state.LinkStatePartialEq.TheImpl as LinkStateEq;
 ghost use Rattle.rule_types.specs.contracts.state.StatePartialEq.TheImpl as StateEq;
@@ -74,7 +69,7 @@ pub fn equal_keys()
     ensures key { TellsEqual KeyEq.eq-value.it }
 {}
 
-/// The `==` of rules, and of each of their parts, tells exactly whether two are equal.
+/// The `==` of the parts of rules tells exactly whether two are equal.
 pub fn equal_rules()
     ensures side { TellsEqual SideEq.eq-value.it }
     ensures right { TellsEqual RightEq.eq-value.it }
@@ -86,11 +81,6 @@ pub fn equal_rules()
     ensures action { TellsEqual ActionEq.eq-value.it }
     ensures branch { TellsEqual BranchEq.eq-value.it }
     ensures action_at { TellsEqual ActionAtEq.eq-value.it }
-    ensures rule { TellsEqual RuleEq.eq-value.it }
-    ensures expr { TellsEqual ExprEq.eq-value.it }
-    ensures name_kind { TellsEqual NameKindEq.eq-value.it }
-    ensures name_def { TellsEqual NameDefEq.eq-value.it }
-    ensures rules { TellsEqual RulesEq.eq-value.it }
 {}
 
 /// The `==` of states, of their links, of rows and of the memories of PID actions tells exactly

@@ -4,7 +4,7 @@ use crate::key::Key;
 use list_types::Bytes;
 
 /// What a name stands for (SWMM 5.2 manual, [CONTROLS]).
-#[derive(Drop, PartialEq, Eq)]
+#[derive(Drop)]
 pub enum NameKind {
     /// A key, declared by VARIABLE.
     Variable(Key),
@@ -13,7 +13,7 @@ pub enum NameKind {
 }
 
 /// A declared name (SWMM 5.2 manual, [CONTROLS]).
-#[derive(Drop, PartialEq, Eq)]
+#[derive(Drop)]
 pub struct NameDef {
     pub name: Bytes,
     pub stands_for: NameKind,

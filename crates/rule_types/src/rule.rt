@@ -7,7 +7,7 @@ use exact_fraction::frac::Frac;
 use list_types::{Bytes, Items};
 
 /// A control rule (SWMM 5.2 manual, [CONTROLS]).
-#[derive(Drop, PartialEq, Eq)]
+#[derive(Drop)]
 pub struct Rule {
     pub id: Bytes,
     pub conditions: Items<Condition>,

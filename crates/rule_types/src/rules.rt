@@ -11,7 +11,7 @@ use exact_fraction::moment::Moment;
 use list_types::Items;
 
 /// The rules of a file with their names, and the keys and links that they read and act on.
-#[derive(Drop, PartialEq, Eq)]
+#[derive(Drop)]
 pub struct Rules {
     /// The rules in the order of the file.
     pub rules: Items<Rule>,
