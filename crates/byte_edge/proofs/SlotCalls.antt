@@ -1,5 +1,5 @@
 -- Several calls on one slot.
-use Rattle.std.proofs.Common.{◌≡◌, ℕ, ◌≤◌, Bool, true, false, List, Option, refl, ◌∙◌, arith, sym, subst}
+use Rattle.std.proofs.Common.{◌≡◌, ℕ, Bool, true, false, List, Option, refl, ◌∙◌, arith, subst}
 use Rattle.byte_edge.specs.Devices.{CountIncreased, FaultCounts, IsCallOn}
 
 -- before any call

@@ -1,31 +1,39 @@
 //! The bytes that were read from a slot and not yet given.
-ghost use Rattle.std.specs.Prelude.{◌≡◌, ◌<◌, ◌≤◌, [], length, drop, false, IsTrue, IfOk, OnOk, OnErr, is_err};
+ghost use Rattle.std.specs.Prelude.{◌≡◌, ◌<◌, ◌≤◌, ◌==◌, [], length, drop, position, false, IsTrue, IfOk};
+ghost use Rattle.std.specs.Prelude.{OnOk, OnErr, is_err};
 ghost use Rattle.std.specs.Io.KnownBytes.{Consumes, Keeps, IsAtEnd};
 ghost use Rattle.byte_edge.specs.Devices.{IsCallOn};
+ghost use Rattle.byte_edge.specs.TextBytes.{line_feed};
 
 use super::{Failed, Files, NoMemory};
+use memchr::memchr;
 use std::alloc::Global;
 use std::marker::Model;
 
 /// How many bytes a read asks for.
 const BLOCK: usize = 8192;
 
-/// Bytes of a slot, taken by reads of up to 8,192 bytes. Contracts see the bytes that it holds.
+/// Bytes of a slot, taken by reads of up to 8,192 bytes. Contracts see the bytes that it holds. Their
+/// first LF is looked for once, where bytes were read or discarded.
 #[derive(Drop)]
 pub(crate) struct Block {
     bytes: Vec<u8>,
     start: usize,
     end: usize,
+    /// The place of the first LF among the bytes that it holds.
+    feed: Option<usize>,
 }
 
 impl Model for Block {
-    ghost use Rattle.std.specs.Prelude.{◌≡◌, ◌≤◌, ℕ, List, slice_range, vec_len};
+    ghost use Rattle.std.specs.Prelude.{◌≡◌, ◌≤◌, ◌==◌, ℕ, List, slice_range, vec_len, position};
+    ghost use Rattle.byte_edge.specs.TextBytes.{line_feed};
 
     ghost Value = { List ℕ };
 
     ghost view = { λ b. slice_range b.bytes.items b.start b.end };
 
-    ghost invariant = { λ b. (b.start ≤ b.end) × (b.end ≤ 8192) × (vec_len b.bytes ≡ 8192) };
+    ghost invariant = { λ b. (b.start ≤ b.end) × (b.end ≤ 8192) × (vec_len b.bytes ≡ 8192)
+        × (b.feed ≡ position (λ byte. byte == line_feed) (slice_range b.bytes.items b.start b.end)) };
 }
 
 impl Block {
@@ -39,6 +47,7 @@ impl Block {
             bytes,
             start: 0,
             end: 0,
+            feed: None,
         })
     }
 
@@ -51,12 +60,20 @@ impl Block {
         &all[start..end]
     }
 
+    /// The place of the first LF among the bytes that it holds. It costs nothing.
+    pub(crate) fn line_feed(&self) -> Option<usize>
+        ensures { result ≡ position (λ byte. byte == line_feed) self.now }
+    {
+        self.feed
+    }
+
     /// Discards the first `count` bytes.
     pub(crate) fn consume(&mut self, count: usize)
         requires { count ≤ length self.old }
         ensures { self.new ≡ drop count self.old }
     {
         self.start += count;
+        self.feed = newline_at(&self.bytes.as_slice()[self.start..self.end]);
     }
 
     /// Reads once into a block that holds nothing. False at the end of the slot.
@@ -78,8 +95,17 @@ impl Block {
     {
         self.start = 0;
         self.end = 0;
+        self.feed = None;
         let count = files.read(slot, self.bytes.as_mut_slice())?;
         self.end = count;
+        self.feed = newline_at(&self.bytes.as_slice()[..count]);
         Ok(count > 0)
     }
+}
+
+/// The place of the first LF.
+fn newline_at(bytes: &[u8]) -> Option<usize>
+    ensures { result ≡ position (λ byte. byte == line_feed) bytes.now }
+{
+    memchr(b'\n', bytes)
 }

@@ -1,8 +1,7 @@
 //! One line, taken from the bytes that are held and those that reads give.
-ghost use Rattle.std.specs.Prelude.{◌≡◌, ◌<◌, ◌==◌, IsTrue, position};
+ghost use Rattle.std.specs.Prelude.{◌≡◌, ◌<◌, IsTrue};
 ghost use Rattle.std.specs.Io.KnownBytes.{prepend_known};
 ghost use Rattle.byte_edge.specs.Devices.{IsCallOn, SlotsUnchanged};
-ghost use Rattle.byte_edge.specs.TextBytes.{line_feed};
 ghost use Rattle.byte_edge.specs.Lines.{has_line_feed};
 ghost use Rattle.byte_edge.specs.internal.LineParts.{IsNextPart};
 ghost use Rattle.byte_edge.specs.internal.Gathered.{Gathers, is_fault};
@@ -18,25 +17,12 @@ pub(crate) struct Part {
     whole: bool,
 }
 
-/// Where the first LF is.
-fn newline_at(bytes: &[u8]) -> Option<usize>
-    ensures { result ≡ position (λ byte. byte == line_feed) bytes.now }
+/// How many of the bytes held belong to the line that they begin, and whether its LF is among them.
+fn next_part(block: &Block) -> Part
+    ensures { IsNextPart result.len result.whole block.now }
 {
-    bytes.iter().position(|byte| *byte == b'\n')
-}
-
-/// Whether there is an LF.
-pub(crate) fn has_newline(bytes: &[u8]) -> bool
-    ensures { result ≡ has_line_feed bytes.now }
-{
-    bytes.iter().any(|byte| *byte == b'\n')
-}
-
-/// How many of these bytes belong to the line that they begin, and whether its LF is among them.
-fn next_part(bytes: &[u8]) -> Part
-    ensures { IsNextPart result.len result.whole bytes.now }
-{
-    match newline_at(bytes) {
+    let bytes = block.as_slice();
+    match block.line_feed() {
         Some(at) => Part {
             len: at + 1,
             whole: true,
@@ -86,7 +72,7 @@ pub(crate) fn gather<F: Files>(
 {
     line.clear();
     'parts: loop {
-        let part = next_part(block.as_slice());
+        let part = next_part(block);
         line.extend(&block.as_slice()[..part.len]);
         block.consume(part.len);
         if part.len as u64 > *room {

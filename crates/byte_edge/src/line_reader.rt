@@ -9,7 +9,7 @@ ghost use Rattle.byte_edge.specs.internal.Reading.{Advances};
 ghost use Rattle.byte_edge.specs.contracts.line_reader.LineReader.{the_row};
 
 use super::block::Block;
-use super::gather::{Gathered, gather, has_newline};
+use super::gather::{Gathered, gather};
 use super::partial_line::PartialLine;
 use super::{Files, NoMemory, ReadEnd};
 use std::alloc::Global;
@@ -92,11 +92,11 @@ impl LineReader {
     /// Whether the next line, or the end, is given without a read: an LF is held, or a read gave 0
     /// before.
     ///
-    /// It looks through the bytes held, at most 8,192, up to the first LF.
+    /// It costs the same however many bytes are held.
     pub fn has_line(&self) -> bool
         ensures { result ≡ has_line self.now }
     {
-        self.ended || has_newline(self.block.as_slice())
+        self.ended || self.block.line_feed().is_some()
     }
 
     /// Takes the next line into the reader. True where there is one.

@@ -33,7 +33,7 @@ none_held len whole bytes rest is part rest_is = rest_is ∙ drop_all len bytes 
 pub returns-then-part-room-clause-gathered : goal.returns-then-part-room-clause-gathered
 returns-then-part-room-clause-gathered g c =
     let begun = c.parts.invariant.begun in
-    let part : IsNextPart c.next_part-part.result.len c.next_part-part.result.whole c.parts.block = rw c.as_slice.ensures at c.next_part-part.ensures in
+    let part : IsNextPart c.next_part-part.result.len c.next_part-part.result.whole c.parts.block = c.next_part-part.ensures in
     record {
       raw = begun.raw ++ take c.next_part-part.result.len c.parts.block;
       over = record {
@@ -46,18 +46,18 @@ returns-then-part-room-clause-gathered g c =
 pub returns-then-part-clause-gathered : goal.returns-then-part-clause-gathered
 returns-then-part-clause-gathered g c =
     let begun = c.parts.invariant.begun in
-    let part : IsNextPart c.next_part-part.result.len c.next_part-part.result.whole c.parts.block = rw c.as_slice.ensures at c.next_part-part.ensures in
+    let part : IsNextPart c.next_part-part.result.len c.next_part-part.result.whole c.parts.block = c.next_part-part.ensures in
     record {
       raw = begun.raw ++ take c.next_part-part.result.len c.parts.block;
       whole = IsWholeLine-after _ _ begun.none (part.line c.if-part.true);
-      taken = IsTaken-part _ _ _ _ _ _ _ _ _ _ part.within c.if-part-room.false c.consume.ensures (rw c.as_slice-in-parts.ensures at c.extend.ensures.bytes) c.extend.ensures.most begun.taken;
+      taken = IsTaken-part _ _ _ _ _ _ _ _ _ _ part.within c.if-part-room.false c.consume.ensures (rw c.as_slice.ensures at c.extend.ensures.bytes) c.extend.ensures.most begun.taken;
     }
 
 pub parts-preserved : goal.parts-preserved
 parts-preserved g c =
     let begun = c.parts.invariant.begun in
-    let part : IsNextPart c.next_part-part.result.len c.next_part-part.result.whole c.parts.block = rw c.as_slice.ensures at c.next_part-part.ensures in
-    let taken = IsTaken-part _ _ _ _ _ _ _ _ _ _ part.within c.if-part-room.false c.consume.ensures (rw c.as_slice-in-parts.ensures at c.extend.ensures.bytes) c.extend.ensures.most begun.taken in
+    let part : IsNextPart c.next_part-part.result.len c.next_part-part.result.whole c.parts.block = c.next_part-part.ensures in
+    let taken = IsTaken-part _ _ _ _ _ _ _ _ _ _ part.within c.if-part-room.false c.consume.ensures (rw c.as_slice.ensures at c.extend.ensures.bytes) c.extend.ensures.most begun.taken in
     record {
       begun = record {
         raw = begun.raw ++ take c.next_part-part.result.len c.parts.block;
@@ -76,8 +76,8 @@ parts-preserved g c =
 pub returns-in-Ok-false-clause-gathered : goal.returns-in-Ok-false-clause-gathered
 returns-in-Ok-false-clause-gathered g c =
     let begun = c.parts.invariant.begun in
-    let part : IsNextPart c.next_part-part.result.len c.next_part-part.result.whole c.parts.block = rw c.as_slice.ensures at c.next_part-part.ensures in
-    let taken = IsTaken-part _ _ _ _ _ _ _ _ _ _ part.within c.if-part-room.false c.consume.ensures (rw c.as_slice-in-parts.ensures at c.extend.ensures.bytes) c.extend.ensures.most begun.taken in
+    let part : IsNextPart c.next_part-part.result.len c.next_part-part.result.whole c.parts.block = c.next_part-part.ensures in
+    let taken = IsTaken-part _ _ _ _ _ _ _ _ _ _ part.within c.if-part-room.false c.consume.ensures (rw c.as_slice.ensures at c.extend.ensures.bytes) c.extend.ensures.most begun.taken in
     let done = c.in-Ok-false.ensures.end c.in-Ok-false.field-0-test in
     record {
       raw = begun.raw ++ take c.next_part-part.result.len c.parts.block;
@@ -94,8 +94,8 @@ returns-in-Ok-false-clause-gathered g c =
 pub returns-in-Err-clause-gathered : goal.returns-in-Err-clause-gathered
 returns-in-Err-clause-gathered g c =
     let begun = c.parts.invariant.begun in
-    let part : IsNextPart c.next_part-part.result.len c.next_part-part.result.whole c.parts.block = rw c.as_slice.ensures at c.next_part-part.ensures in
-    let taken = IsTaken-part _ _ _ _ _ _ _ _ _ _ part.within c.if-part-room.false c.consume.ensures (rw c.as_slice-in-parts.ensures at c.extend.ensures.bytes) c.extend.ensures.most begun.taken in
+    let part : IsNextPart c.next_part-part.result.len c.next_part-part.result.whole c.parts.block = c.next_part-part.ensures in
+    let taken = IsTaken-part _ _ _ _ _ _ _ _ _ _ part.within c.if-part-room.false c.consume.ensures (rw c.as_slice.ensures at c.extend.ensures.bytes) c.extend.ensures.most begun.taken in
     record {
       raw = begun.raw ++ take c.next_part-part.result.len c.parts.block;
       none = no_line _ _ _ _ c.if-part.false begun.none part;
@@ -105,12 +105,12 @@ returns-in-Err-clause-gathered g c =
 
 pub returns-in-Ok-false-clause-unread : goal.returns-in-Ok-false-clause-unread
 returns-in-Ok-false-clause-unread g c = λ has.
-    let part : IsNextPart c.next_part-part.result.len c.next_part-part.result.whole c.parts.block = rw c.as_slice.ensures at c.next_part-part.ensures in
+    let part : IsNextPart c.next_part-part.result.len c.next_part-part.result.whole c.parts.block = c.next_part-part.ensures in
     part_is_whole _ _ _ _ c.if-part.false part (c.parts.invariant.unread has).0 has
 
 pub returns-in-Err-clause-unread : goal.returns-in-Err-clause-unread
 returns-in-Err-clause-unread g c = λ has.
-    let part : IsNextPart c.next_part-part.result.len c.next_part-part.result.whole c.parts.block = rw c.as_slice.ensures at c.next_part-part.ensures in
+    let part : IsNextPart c.next_part-part.result.len c.next_part-part.result.whole c.parts.block = c.next_part-part.ensures in
     part_is_whole _ _ _ _ c.if-part.false part (c.parts.invariant.unread has).0 has
 
 pub returns-then-part-room-clause-unread : goal.returns-then-part-room-clause-unread
