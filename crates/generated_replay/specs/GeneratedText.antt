@@ -13,7 +13,7 @@ use Rattle.model_generator.specs.InputFile.{generated_input}
 use Rattle.model_generator.specs.Trace.{generated_trace}
 use Rattle.num_text.specs.Values.{written_value}
 use Rattle.object_index.specs.Objects.{Objects}
-use Rattle.project_commands.specs.InputRefusals.{project_judged}
+use Rattle.input_check.specs.InputRefusals.{project_judged}
 use Rattle.replay_text.specs.Lines.{link_name}
 use Rattle.rule_meaning.specs.Reading.{settling}
 use Rattle.rule_parser.specs.declared.project.Project.{Project}

@@ -4,7 +4,7 @@ ghost use Rattle.rule_types.specs.Tables.{HoldsTables};
 ghost use Rattle.rule_types.specs.WellFormed.{WellFormed};
 ghost use Rattle.inp_text.specs.Sections.{Line};
 ghost use Rattle.inp_text.specs.internal.Represents.{Represents};
-ghost use Rattle.project_commands.specs.InputRefusals.{project_judged, project_read};
+ghost use Rattle.input_check.specs.InputRefusals.{project_judged, project_read};
 ghost use Rattle.generated_replay.specs.GeneratedText.{input_judged};
 ghost use Rattle.generated_replay.specs.internal.InputLines.{AreSectionsOf};
 ghost use Rattle.trace_tally.specs.Giving.{Gives};
@@ -12,7 +12,7 @@ ghost use Rattle.trace_tally.specs.Giving.{Gives};
 use byte_edge::NoMemory;
 use command_outputs::{Complaint, INPUT_FILE, Role};
 use inp_text::Sections;
-use project_commands::refusal_line;
+use input_check::refusal_line;
 use rule_parser::{Project, read_project};
 use rule_types::ReadFault;
 use std::alloc::Global;
@@ -52,7 +52,7 @@ fn sections_of(alloc: Global, input: &[u8]) -> Result<Sections, NoMemory>
 }
 
 /// Judges the lines of an input file.
-#[tactic(auto, unfolding(project_commands::specs::InputRefusals::project_judged))]
+#[tactic(auto, unfolding(input_check::specs::InputRefusals::project_judged))]
 fn judge(alloc: Global, sections: &Sections) -> Result<Project, Complaint>
     ensures gives { (earlier : List Line) → Represents sections.now earlier
         → Gives (project_judged (reverse earlier)) project_read result }

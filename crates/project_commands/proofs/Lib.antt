@@ -1,6 +1,2 @@
 -- Lemmas of this crate, over plain values.
-pub mod Causes
 pub mod Stops
-pub mod InputJudged
-pub mod WholeFiles
-pub mod PublicLaws

@@ -1,5 +1,3 @@
--- What the commands on an input file and a trace come to.
-pub mod InputRefusals
-pub mod Checks
+-- What the commands on the rules of an input file come to.
 pub mod Replays
 pub mod Tables

@@ -8,7 +8,7 @@ use Rattle.replay_printer.specs.Printed.{as_printed}
 use Rattle.replay_text.specs.Replays.{replay_text}
 use Rattle.rule_parser.specs.declared.project.Project.{Project}
 use Rattle.streamed_lines.specs.Streams.{Printed, stream}
-use Rattle.project_commands.specs.InputRefusals.{project_judged}
+use Rattle.input_check.specs.InputRefusals.{project_judged}
 
 abbrev pub replay_roles : List Role
 replay_roles = Input ∷ Trace ∷ []

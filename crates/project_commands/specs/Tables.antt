@@ -7,7 +7,7 @@ use Rattle.command_outputs.specs.declared.status.Status.TheVariants.{Done}
 use Rattle.rule_parser.specs.declared.project.Project.{Project}
 use Rattle.table_compiler.specs.Rows.{tables_of}
 use Rattle.table_compiler.specs.TableText.{table_text}
-use Rattle.project_commands.specs.InputRefusals.{project_judged}
+use Rattle.input_check.specs.InputRefusals.{project_judged}
 
 -- the text of the tables of the project's rules
 abbrev pub tables_printed : Project → List ℕ

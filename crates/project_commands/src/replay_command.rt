@@ -7,7 +7,7 @@ ghost use Rattle.rule_types.specs.Tables.{HoldsTables};
 ghost use Rattle.rule_types.specs.WellFormed.{WellFormed};
 ghost use Rattle.project_commands.specs.Replays.{replay_outcome, replay_roles, replay_printed};
 
-use crate::input::read_input;
+use input_check::read_input;
 use byte_edge::{Files, NoMemory, Sink};
 use command_outputs::{Complaint, Completion};
 use replay_printer::ReplayPrinter;

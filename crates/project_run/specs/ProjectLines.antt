@@ -4,7 +4,7 @@ use Rattle.std.specs.Prelude.{ℕ, if◌then◌else◌, List, [], ◌∷◌, cod
 use Rattle.std.specs.Str.{bytes_eq}
 use Rattle.command_outputs.specs.Outcomes.{Outcome}
 use Rattle.command_outputs.specs.declared.role.Role.{Role}
-use Rattle.project_commands.specs.Checks.{check_roles, check_outcome}
+use Rattle.input_check.specs.Checks.{check_roles, check_outcome}
 use Rattle.project_commands.specs.Replays.{replay_roles, replay_outcome}
 use Rattle.project_commands.specs.Tables.{tables_roles, tables_outcome}
 

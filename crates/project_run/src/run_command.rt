@@ -10,7 +10,8 @@ ghost use Rattle.project_run.specs.Words.{line_of};
 use crate::project_command::{ProjectCommand, project_command_of};
 use byte_edge::{Files, Sink};
 use command_outputs::{Complaint, Completion, Status, conclude};
-use project_commands::{check, replay, tables};
+use input_check::check;
+use project_commands::{replay, tables};
 use std::alloc::Global;
 
 /// Runs the command that the words are, `check IN`, `tables IN` or `replay IN TRACE`, over the

@@ -2,7 +2,7 @@
 use Rattle.std.proofs.Common.{◌≡◌, ℕ, List, [], ◌∷◌, Option, Some, IfSome, subst, codes}
 use Rattle.command_outputs.specs.Outcomes.{Outcome, stage, input_file}
 use Rattle.command_outputs.specs.declared.role.Role.{Role}
-use Rattle.project_commands.specs.InputRefusals.{project_judged}
+use Rattle.input_check.specs.InputRefusals.{project_judged}
 use Rattle.project_commands.specs.Replays.{replay_printed, replay_roles}
 use Rattle.streamed_lines.specs.Streams.{stream}
 use Rattle.swmm_rules.specs.Commands.{command_of, outcome_of_words, roles_of_words}

@@ -7,7 +7,7 @@ use Rattle.command_outputs.specs.declared.role.Role.{Role}
 use Rattle.command_outputs.specs.declared.status.Status.{Status}
 use Rattle.command_outputs.specs.declared.status.Status.TheVariants.{Done, Refused, Usage, Device}
 use Rattle.command_outputs.specs.declared.status.Status.TheVariants.{NoMemory, Refuted, Undecided}
-use Rattle.project_commands.specs.InputRefusals.{project_judged}
+use Rattle.input_check.specs.InputRefusals.{project_judged}
 use Rattle.project_commands.specs.Replays.{replay_printed}
 use Rattle.streamed_lines.specs.Streams.{stream}
 use Rattle.swmm_rules.specs.Commands.{usage_text}

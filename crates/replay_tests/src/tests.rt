@@ -4,7 +4,8 @@ ghost use Rattle.rule_types.specs.WellFormed.{WellFormed};
 
 use byte_edge::{MemoryFiles, MemorySink, NoMemory};
 use model_generator::gen_files;
-use project_commands::{printer_of, read_input};
+use input_check::read_input;
+use project_commands::printer_of;
 use rule_parser::Project;
 use std::alloc::Global;
 use std::test::Fail;

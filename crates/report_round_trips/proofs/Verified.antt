@@ -9,7 +9,7 @@ use Rattle.std.specs.Result.{result_ok}
 use Rattle.command_outputs.specs.Outcomes.{Outcome, file_lines, judged, stage, too_long}
 use Rattle.command_outputs.specs.Outcomes.{input_file, ranges_file, report_file}
 use Rattle.command_outputs.specs.declared.file_kind.FileKind.{FileKind}
-use Rattle.project_commands.specs.InputRefusals.{project_judged}
+use Rattle.input_check.specs.InputRefusals.{project_judged}
 use Rattle.rule_parser.specs.declared.project.Project.{Project}
 use Rattle.verdict_meaning.specs.declared.verdict.Verdict.{Verdict}
 use Rattle.verdict_commands.specs.Preparing.{IsReady, ranges_judged}

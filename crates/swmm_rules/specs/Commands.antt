@@ -6,7 +6,7 @@ use Rattle.command_outputs.specs.Outcomes.{Outcome, usage_outcome}
 use Rattle.command_outputs.specs.declared.role.Role.{Role}
 use Rattle.generated_replay.specs.GeneratedText.{gen_roles, gen_outcome}
 use Rattle.num_text.specs.Counts.{count_of}
-use Rattle.project_commands.specs.Checks.{check_roles, check_outcome}
+use Rattle.input_check.specs.Checks.{check_roles, check_outcome}
 use Rattle.project_commands.specs.Replays.{replay_roles, replay_outcome}
 use Rattle.project_commands.specs.Tables.{tables_roles, tables_outcome}
 use Rattle.verdict_commands.specs.Proves.{prove_roles, prove_outcome}

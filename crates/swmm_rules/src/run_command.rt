@@ -12,7 +12,8 @@ use crate::command::{Command, command_of, usage_text};
 use byte_edge::{Files, Sink};
 use command_outputs::{Complaint, Completion, Status, conclude, tell};
 use generated_replay::generate;
-use project_commands::{check, replay, tables};
+use input_check::check;
+use project_commands::{replay, tables};
 use std::alloc::Global;
 use verdict_commands::{prove, verify};
 

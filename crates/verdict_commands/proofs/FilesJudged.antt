@@ -13,7 +13,7 @@ use Rattle.command_outputs.specs.declared.complaint.Complaint.TheVariants.{ReadF
 use Rattle.command_outputs.specs.declared.complaint.Complaint.TheVariants.{OutOfMemory}
 use Rattle.command_outputs.specs.declared.file_kind.FileKind.{FileKind}
 use Rattle.inp_text.specs.Sections.{Line}
-use Rattle.project_commands.specs.InputRefusals.{Judges}
+use Rattle.input_check.specs.InputRefusals.{Judges}
 use Rattle.whole_lines.specs.Reading.{as_read}
 
 -- ---- the lines could not be read

@@ -17,7 +17,7 @@ use Rattle.command_outputs.specs.declared.completion.Completion.{Completion}
 use Rattle.command_outputs.specs.declared.file_kind.FileKind.{FileKind}
 use Rattle.command_outputs.proofs.PublicLaws.{stage_outcomes-opens}
 use Rattle.inp_text.specs.Sections.{Line}
-use Rattle.project_commands.specs.InputRefusals.{project_judged, project_read}
+use Rattle.input_check.specs.InputRefusals.{project_judged, project_read}
 use Rattle.rule_parser.specs.declared.project.Project.{Project}
 use Rattle.verdict_meaning.specs.declared.verdict.Verdict.{Verdict}
 use Rattle.verdict_commands.specs.Preparing.{prepared_read, ranges_judged}

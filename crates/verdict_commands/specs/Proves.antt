@@ -16,7 +16,7 @@ use Rattle.command_outputs.specs.declared.completion.Completion.TheVariants.{Und
 use Rattle.command_outputs.specs.declared.file_kind.FileKind.{FileKind}
 use Rattle.command_outputs.specs.declared.role.Role.{Role}
 use Rattle.command_outputs.specs.declared.role.Role.TheVariants.{Input, Ranges}
-use Rattle.project_commands.specs.InputRefusals.{project_judged}
+use Rattle.input_check.specs.InputRefusals.{project_judged}
 use Rattle.report_text.specs.WrittenReports.{report_text}
 use Rattle.rule_parser.specs.declared.project.Project.{Project}
 use Rattle.verdict_meaning.specs.Verdicts.{IsVerdict}

@@ -11,7 +11,7 @@ use Rattle.command_outputs.specs.declared.completion.Completion.TheVariants.{Don
 use Rattle.command_outputs.specs.declared.completion.Completion.TheVariants.{Undecided}
 use Rattle.command_outputs.specs.declared.role.Role.{Role}
 use Rattle.command_outputs.specs.declared.role.Role.TheVariants.{Input, Ranges, Report}
-use Rattle.project_commands.specs.InputRefusals.{project_judged}
+use Rattle.input_check.specs.InputRefusals.{project_judged}
 use Rattle.report_checker.specs.Accepted.{report_judged}
 use Rattle.report_checker.specs.declared.counts.Counts.{Counts}
 use Rattle.report_checker.specs.declared.fault.ReportFault.{ReportFault}

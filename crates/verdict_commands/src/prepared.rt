@@ -3,7 +3,7 @@ ghost use Rattle.std.specs.Prelude.{◌≡◌, IfOk};
 ghost use Rattle.command_outputs.specs.Outcomes.{ranges_file};
 ghost use Rattle.command_outputs.specs.Steps.{PassesStage};
 ghost use Rattle.grid_samples.specs.Cells.{HasClosedRanges};
-ghost use Rattle.project_commands.specs.InputRefusals.{Judges};
+ghost use Rattle.input_check.specs.InputRefusals.{Judges};
 ghost use Rattle.rule_types.specs.Tables.{HoldsTables};
 ghost use Rattle.rule_types.specs.WellFormed.{WellFormed};
 ghost use Rattle.verdict_meaning.specs.FitRanges.{RangesFit};

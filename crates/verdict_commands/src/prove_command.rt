@@ -5,7 +5,7 @@ use crate::decided_report::decide_all;
 use crate::prepared::read_ranges_file;
 use byte_edge::{Files, Sink};
 use command_outputs::{Complaint, Completion, write_text};
-use project_commands::read_input;
+use input_check::read_input;
 use std::alloc::Global;
 
 /// `prove IN RANGES`: reads the input file, and then the ranges, where that is accepted; decides

@@ -1,7 +1,7 @@
 //! A report, read to its end and checked.
 ghost use Rattle.command_outputs.specs.Outcomes.{report_file};
 ghost use Rattle.command_outputs.specs.Steps.{PassesStage};
-ghost use Rattle.project_commands.specs.InputRefusals.{Judges};
+ghost use Rattle.input_check.specs.InputRefusals.{Judges};
 ghost use Rattle.verdict_commands.specs.Preparing.{IsReady};
 ghost use Rattle.verdict_commands.specs.Verifies.{counts_read, counts_judged};
 

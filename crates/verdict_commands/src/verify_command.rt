@@ -8,7 +8,7 @@ use crate::prepared::read_ranges_file;
 use crate::report::read_report_file;
 use byte_edge::{Files, NoMemory, Sink};
 use command_outputs::{Complaint, Completion, write_text};
-use project_commands::read_input;
+use input_check::read_input;
 use report_checker::Counts;
 use std::alloc::Global;
 

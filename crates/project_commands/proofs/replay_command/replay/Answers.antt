@@ -5,7 +5,7 @@ use Rattle.command_outputs.specs.Outcomes.{input_file}
 use Rattle.command_outputs.proofs.PublicLaws.{stages-none, stages-next, stages-stopped, stages-through}
 use Rattle.streamed_lines.proofs.PublicLaws.{streams-performs}
 use Rattle.streamed_lines.specs.Streams.{stream}
-use Rattle.project_commands.specs.InputRefusals.{project_judged, project_read}
+use Rattle.input_check.specs.InputRefusals.{project_judged, project_read}
 use Rattle.project_commands.specs.Replays.{replay_printed, replay_roles}
 use Rattle.project_commands.proofs.Stops.{stream_opens}
 use Rattle.project_commands.proofs.replay_command.replay.Goals as goal

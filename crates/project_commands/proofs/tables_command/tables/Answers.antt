@@ -7,7 +7,7 @@ use Rattle.command_outputs.specs.Steps.{WritesText}
 use Rattle.command_outputs.proofs.PublicLaws.{command_ends-written}
 use Rattle.command_outputs.specs.declared.completion.Completion.TheVariants as Completion
 use Rattle.project_commands.specs.Tables.{tables_roles, tables_printed}
-use Rattle.project_commands.specs.InputRefusals.{project_judged, project_read}
+use Rattle.input_check.specs.InputRefusals.{project_judged, project_read}
 use Rattle.rule_parser.specs.declared.project.Project.{Project}
 use Rattle.project_commands.proofs.tables_command.tables.Goals as goal
 

@@ -6,7 +6,7 @@ use Rattle.command_outputs.specs.declared.completion.Completion.{Completion}
 use Rattle.command_outputs.proofs.PublicLaws.{stages-none, stages-next, stages-stopped}
 use Rattle.command_outputs.proofs.PublicLaws.{stages-through}
 use Rattle.command_outputs.proofs.PublicLaws.{command_ends-written, command_ends-out_of_memory}
-use Rattle.project_commands.specs.InputRefusals.{project_judged, project_read}
+use Rattle.input_check.specs.InputRefusals.{project_judged, project_read}
 use Rattle.verdict_commands.specs.Preparing.{prepared_read, ranges_judged}
 use Rattle.verdict_commands.specs.Verifies.{after_input, after_ranges, completion_of, counts_judged}
 use Rattle.verdict_commands.specs.Verifies.{counts_read, verified, verify_roles}

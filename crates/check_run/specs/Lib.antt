@@ -1,0 +1,2 @@
+-- The command `check` by its words, and what it comes to.
+pub mod CheckLines

@@ -1,0 +1,9 @@
+//! The command `check` by its words.
+#![tactic(auto)]
+
+mod run_command;
+
+pub use run_command::run_check;
+
+#[cfg(test)]
+mod tests;

@@ -1,4 +1,0 @@
--- What the crates above may use in their lemmas, and all that they may. Each term proves the clause
--- of src/laws.rt that its name gives, law and clause, and the answers of those laws are these terms.
-pub use Rattle.project_commands.proofs.Causes.{known_cause as cause_names-known}
-pub use Rattle.project_commands.proofs.WholeFiles.{unread_stage as whole_files-unread}
