@@ -19,7 +19,8 @@ import swmm_files
 TOP = os.path.dirname(calls.TOOLS)
 PROGRAMS = {  # the program of each crate, and its commands
     f"{TOP}/crates/swmm_rules_bin/out/swmm_rules_bin": "check tables replay prove verify gen".split(),
-    f"{TOP}/crates/project_bin/out/project_bin": "check tables replay".split()}
+    f"{TOP}/crates/project_bin/out/project_bin": "check tables replay".split(),
+    f"{TOP}/crates/check_bin/out/check_bin": ["check"]}
 PROGRAM = next((path for path in PROGRAMS if os.access(path, os.X_OK)), None)
 COMMANDS = PROGRAMS.get(PROGRAM, [])
 TANK = "./swmm-rules {} examples/storm-tank.inp"

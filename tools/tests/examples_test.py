@@ -6,6 +6,7 @@ import calls
 
 TOP = os.path.dirname(calls.TOOLS)
 PROGRAMS = [os.path.join(TOP, "crates", name) for name in ("swmm_rules_bin", "project_bin")]
+CHECK = os.path.join(TOP, "crates", "check_bin")
 EXAMPLES = os.path.join(TOP, "examples")
 
 
@@ -28,3 +29,9 @@ class StoredRunTest(unittest.TestCase):
         for program in PROGRAMS:
             self.assertEqual(content(program, "args").split(),
                              [b"replay", b"storm-tank.inp", b"storm-tank.csv"], program)
+
+    def test_that_of_the_program_of_check_is_what_the_readme_shows(self):
+        self.assertEqual(content(CHECK, "data", "storm-tank.inp"), content(EXAMPLES, "storm-tank.inp"))
+        self.assertEqual(content(CHECK, "args").split(), [b"check", b"storm-tank.inp"])
+        shown = b"    $ ./swmm-rules check examples/storm-tank.inp\n    " + content(CHECK, "stdout")
+        self.assertIn(shown, content(TOP, "README.md"))

@@ -1,4 +1,4 @@
-"""Runs both programs with the same words on the same files: what one says the other says too.
+"""Runs the programs with the same words on the same files: what one says the others say too.
 
 The files are those of examples/, those of the tools, some of them refused, and damaged ones.
 """
@@ -10,10 +10,13 @@ import unittest
 import calls
 
 TOP = os.path.dirname(calls.TOOLS)
-WHOLE, PROJECT = (f"{TOP}/crates/{name}/out/{name}" for name in ("swmm_rules_bin", "project_bin"))
-ARE_BUILT = [os.access(program, os.X_OK) for program in (WHOLE, PROJECT)]
-IN_BOTH = unittest.skipUnless(all(ARE_BUILT), "only one of the programs is built, or none")
+WHOLE, *SMALL = (f"{TOP}/crates/{name}/out/{name}"
+                 for name in ("swmm_rules_bin", "project_bin", "check_bin"))
 COMMANDS = ("check", "tables", "replay")
+HAS = dict(zip(SMALL, (COMMANDS, COMMANDS[:1])))  # the small programs with their commands
+BUILT = [program for program in SMALL if os.access(program, os.X_OK)]
+IN_BOTH = unittest.skipUnless(os.access(WHOLE, os.X_OK) and BUILT,
+                              "only one of the programs is built, or none")
 DAMAGED = 40  # damaged files of each command
 OTHER_WORDS = (
     [], ["check"], ["tables"], ["replay"], ["check", "plant.inp", "plant.csv"],
@@ -36,10 +39,12 @@ class ProgramsTest(unittest.TestCase):
         return ran.returncode, ran.stdout, ran.stderr
 
     def same(self, words):
-        """The status with which both end, where they say the same."""
+        """The status with which all end that have the command, where they say the same."""
         whole = self.run_one(WHOLE, words)
-        with self.subTest(words):
-            self.assertEqual(self.run_one(PROJECT, words), whole)
+        for program in BUILT:
+            if words[0] in HAS[program]:
+                with self.subTest(program=program, words=words):
+                    self.assertEqual(self.run_one(program, words), whole)
         return whole[0]
 
     @IN_BOTH
@@ -65,8 +70,10 @@ class ProgramsTest(unittest.TestCase):
                     statuses.append(self.same(case.words))
         self.assertLessEqual({0, 1}, set(statuses))
 
-    @unittest.skipUnless(ARE_BUILT[1], "the program of check, tables and replay is not built")
+    @unittest.skipUnless(BUILT, "no small program is built")
     def test_words_of_no_such_command_are_left_to_the_whole_tool(self):
         calls.tool("failing_calls.py").write_files(self.folder)
-        for words in OTHER_WORDS:
-            self.assertEqual(self.run_one(PROJECT, words), (8, b"", b""), words)
+        others = [["tables", "plant.inp"], ["replay", "plant.inp", "plant.csv"]]
+        for program in BUILT:
+            for words in OTHER_WORDS + tuple(it for it in others if it[0] not in HAS[program]):
+                self.assertEqual(self.run_one(program, words), (8, b"", b""), (program, words))

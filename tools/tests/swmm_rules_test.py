@@ -13,14 +13,21 @@ import calls
 
 TOP = os.path.dirname(calls.TOOLS)
 BUILD = calls.tool("build-program")
-CRATES = "# lowest first\nlow: std\nother: low\nhigh: low\nswmm_rules_bin: low high\nproject_bin: low\n"
-SMALL = (("check", "a model.inp"), ("tables", "a model.inp"), ("replay", "a model.inp", ""))
+CRATES = ("# lowest first\nlow: std\nother: low\nhigh: low\n"
+          "swmm_rules_bin: low high\nproject_bin: low\ncheck_bin: low\n")
+CHECK = ("check", "a model.inp")
+SMALL = (CHECK, ("tables", "a model.inp"), ("replay", "a model.inp", ""))
+ONLY = {
+    "check_bin": "swmm-rules: it is the program of check; tables and replay build more when they are"
+                 " first asked for, and prove, verify and gen the rest\n",
+    "project_bin": "swmm-rules: it is the program of check, tables and replay; prove, verify and gen"
+                   " build the rest when they are first asked for\n"}
 NOT_SMALL = (
     (), ("check",), ("tables",), ("replay",), ("check", "a", "b"), ("tables", "a", "b"),
     ("replay", "a"), ("replay", "a", "b", "c"), ("Check", "a"), ("", "a"), ("check a",), ("a", "check"),
     ("checks", "a"), ("prove", "a", "b"), ("verify", "a", "b", "c"), ("gen", "1"), ("2:check", "a"))
 RT = """#!/bin/sh
-# crates.txt has: low, other, high and the two programs. Files at the top say how it goes.
+# crates.txt has: low, other, high and the three programs. Files at the top say how it goes.
 echo "$(pwd): $*" >>"$CALLS"
 crate=$(basename "$(pwd)")
 case $1 in
@@ -37,8 +44,12 @@ lib)
     if [ -f out/incremental/work ]; then echo "$crate begins with work" >>"$CALLS.rooms"; fi
     : >out/incremental/work ;;
 run)
-    # the whole tool ends with 2 without words, and with 5 in the tests; the small one with 8 and 6
-    if [ $crate = project_bin ]; then usage=8 status=6; else usage=2 status=5; fi
+    # the whole tool ends with 2 without words, and with 5 in the tests; the small ones with 8, and with 6 and 9
+    case $crate in
+    check_bin) usage=8 status=9 ;;
+    project_bin) usage=8 status=6 ;;
+    *) usage=2 status=5 ;;
+    esac
     mkdir -p out
     printf '#!/bin/sh\\npwd\\nprintf "<%%s>" "$@"\\nexit %s\\n' $status >out/$crate
     chmod +x out/$crate
@@ -59,7 +70,7 @@ class ScriptTest(unittest.TestCase):
         for name in ("swmm-rules", "tools/build-program"):
             shutil.copy(f"{TOP}/{name}", f"{self.top}/{name}")
         self.write("crates.txt", CRATES)
-        for crate in ("low", "other", "high", "swmm_rules_bin", "project_bin"):
+        for crate in ("low", "other", "high", "swmm_rules_bin", "project_bin", "check_bin"):
             self.write(f"crates/{crate}/src/lib.rt", "")
         self.write("../bin/rt", RT)
         os.chmod(f"{self.room}/bin/rt", 0o755)
@@ -121,11 +132,11 @@ class ScriptTest(unittest.TestCase):
         self.assertIn("high begins with work", self.calls("calls.rooms"))
 
     def test_a_room_of_a_build_that_was_killed_is_removed(self):
-        for program in ("swmm_rules_bin", "project_bin"):
+        for program in ("swmm_rules_bin", "project_bin", "check_bin"):
             self.write(f"crates/{program}/out/building-old/said", "half")
         self.call()
         self.assertEqual(self.out("swmm_rules_bin"), ["swmm_rules_bin", "swmm_rules_bin.stamp"])
-        self.assertEqual(self.out("project_bin"), [])
+        self.assertEqual((self.out("project_bin"), self.out("check_bin")), ([], []))
 
     def test_the_longest_way_up_is_built_first(self):
         self.write("crates.txt", "low: std\nother: std\nhigh: other\nswmm_rules_bin: low high\n")
@@ -207,7 +218,8 @@ class ScriptTest(unittest.TestCase):
 
     def test_a_program_that_is_not_built_is_not_run(self):
         self.write("fails-program")
-        for words, name in ((("check", "x"), "project_bin"), (("gen", "1"), "swmm_rules_bin")):
+        for words, name in ((("check", "x"), "check_bin"), (("tables", "x"), "project_bin"),
+                            (("gen", "1"), "swmm_rules_bin")):
             ran = self.call(*words)
             self.assertEqual((ran.returncode, ran.stdout), (70, ""))
             self.assertIn(f"it does not link\nswmm-rules: {name} was not", ran.stderr)
@@ -223,29 +235,36 @@ class ScriptTest(unittest.TestCase):
             70, "", "swmm-rules: the program has to be built, and the command rt of the Rattle"
             " kit is not on the PATH\n"))
 
-    def test_the_small_program_is_built_for_its_commands(self):
-        for words in SMALL:
-            shutil.rmtree(f"{self.top}/crates/project_bin/out", ignore_errors=True)
+    def test_the_smallest_program_that_has_the_command_is_built(self):
+        for words, name, status in zip(SMALL, ("check_bin", "project_bin", "project_bin"), (9, 6, 6)):
+            for small in ("check_bin", "project_bin"):
+                shutil.rmtree(f"{self.top}/crates/{small}/out", ignore_errors=True)
             ran = self.call(*words)
             self.assertEqual((ran.returncode, ran.stdout), (
-                6, f"{self.folder}\n" + "".join(f"<{word}>" for word in words)))
+                status, f"{self.folder}\n" + "".join(f"<{word}>" for word in words)))
             self.assertRegex(ran.stderr, (
                 r"\Aswmm-rules: proving and building 1 libraries and the program, \d+ at a time;"
-                r" this is done once, and takes a while\n"
-                r"swmm-rules: it is the program of check, tables and replay;"
-                r" prove, verify and gen build the rest when they are first asked for\n"
+                r" this is done once, and takes a while\n" + re.escape(ONLY[name]) +
                 r"swmm-rules: 1 of 1 after \d+ s: low\n"
                 r"swmm-rules: the program is built, after \d+ s\n\Z"))
             low, program = self.calls()
             self.assertRegex(low, r"\AROOM/crates/low: lib --jobs [1-9]\d*\Z")
-            self.assertEqual(program, "TOP/crates/project_bin: run")
-            self.assertEqual(self.out("project_bin"), ["project_bin", "project_bin.stamp"])
+            self.assertEqual(program, f"TOP/crates/{name}: run")
+            self.assertEqual(self.out(name), [name, f"{name}.stamp"])
+            ran = self.call(*words)
+            self.assertEqual((ran.returncode, ran.stderr, self.calls()), (status, "", []))
+
+    def test_a_larger_program_is_run_where_it_is_current(self):
+        for words, status in ((CHECK, 9), (SMALL[1], 6), (CHECK, 6), (("gen", "1"), 5), (CHECK, 5)):
+            self.assertEqual(self.call(*words).returncode, status)
+        self.calls()
         for words in SMALL:
             ran = self.call(*words)
-            self.assertEqual((ran.returncode, ran.stderr, self.calls()), (6, "", []))
+            self.assertEqual((ran.returncode, ran.stderr, self.calls()), (5, "", []))
 
     def test_other_words_build_the_whole_tool(self):
         self.call("check", "x")
+        self.call("tables", "x")
         self.write("fails-low")
         for words in NOT_SMALL:
             ran = self.call(*words)
@@ -254,16 +273,9 @@ class ScriptTest(unittest.TestCase):
             self.assertNotIn("it is the program of", ran.stderr, words)
         self.assertEqual(self.call("check", "x").returncode, 6)
 
-    def test_the_whole_tool_is_run_wherever_it_is_current(self):
+    def test_a_small_program_is_run_where_larger_ones_are_old(self):
         self.call("check", "x")
-        self.call()
-        self.calls()
-        for words in SMALL:
-            ran = self.call(*words)
-            self.assertEqual((ran.returncode, ran.stderr, self.calls()), (5, "", []))
-
-    def test_the_small_program_is_run_where_the_whole_tool_is_old(self):
-        self.call("check", "x")
+        self.call("tables", "x")
         self.call()
         time.sleep(0.02)
         self.write("crates/high/src/lib.rt", "changed")
@@ -271,9 +283,13 @@ class ScriptTest(unittest.TestCase):
         ran = self.call("check", "x")
         self.assertEqual((ran.returncode, ran.stderr, self.calls()), (6, "", []))
         time.sleep(0.02)
-        self.write("crates/low/src/lib.rt", "changed")
+        self.write("crates/project_bin/src/lib.rt", "changed")
         ran = self.call("check", "x")
-        self.assertEqual((ran.returncode, len(self.calls())), (6, 2))
+        self.assertEqual((ran.returncode, ran.stderr, self.calls()), (9, "", []))
+        time.sleep(0.02)
+        self.write("crates/low/src/lib.rt", "changed")
+        self.assertEqual((self.call("check", "x").returncode, len(self.calls())), (9, 2))
+        self.assertEqual((self.call("tables", "x").returncode, len(self.calls())), (6, 2))
         self.assertEqual((self.call("gen", "1").returncode, len(self.calls())), (5, 3))
 
     def test_a_call_that_waited_for_the_whole_tool_runs_it(self):
