@@ -4,6 +4,3 @@
 mod run_command;
 
 pub use run_command::run_check;
-
-#[cfg(test)]
-mod tests;
