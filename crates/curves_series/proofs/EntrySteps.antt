@@ -1,5 +1,5 @@
 -- Items are read as entries one by one, from the front.
-use Rattle.std.proofs.Common.{◌≡◌, ℕ, zero, suc, ◌+◌, ◌≤◌, Option, Some, None, List, [], ◌∷◌, ◌++◌, ℤ, length, get_or, map, drop, refl, sym, ap, ap₂, ◌∙◌, arith, append_assoc, drop-drop}
+use Rattle.std.proofs.Common.{◌≡◌, ℕ, zero, suc, ◌+◌, ◌≤◌, Option, Some, None, List, [], ◌∷◌, ◌++◌, ℤ, length, get_or, map, drop, refl, sym, ap, ap₂, subst, ◌∙◌, arith, append_assoc, drop-drop}
 use Rattle.std.specs.Borrow.{Bor}
 use Rattle.std.proofs.lemmas.List.{map-append, append-nil, drop_all}
 use Rattle.num_text.specs.Dates.{date_of}
@@ -7,7 +7,8 @@ use Rattle.curves_series.specs.Pairs.{Pair}
 use Rattle.curves_series.specs.Series.{Entries, with_entry, entry_pair, entry_then, three_items, entries_of, axis_at}
 use Rattle.curves_series.specs.declared.axis.Axis.{Axis}
 use Rattle.curves_series.specs.declared.pair.PairRead.{PairRead}
-use Rattle.curves_series.specs.internal.Views.{pair_now, texts, entries_after}
+use Rattle.curves_series.specs.declared.entry.EntryCut.{EntryCut}
+use Rattle.curves_series.specs.internal.Views.{pair_now, texts, after_cut, entries_after}
 
 -- two items or more, and three
 pub two_up : (found : List (Bor (List ℕ))) (d e : Bor (List ℕ)) → 2 ≤ length found → texts found ≡ (get_or found 0 d).now ∷ (get_or found 1 e).now ∷ texts (drop 2 found)
@@ -22,17 +23,17 @@ three_up (a ∷ b ∷ []) d e f h = grind arith
 three_up (a ∷ b ∷ c ∷ rest) d e f h = refl
 
 -- an entry with a date, and one without
-pub dated_entry : (axis after : Axis) (day : ℤ) (found : List (List ℕ)) (a b c : List ℕ) (rest : List (List ℕ)) → found ≡ a ∷ b ∷ c ∷ rest → Some day ≡ date_of a → Some after ≡ axis_at axis (Some day) → entries_of axis found ≡ with_entry (entry_pair after b c) (entries_of after (drop 3 found))
+pub dated_cut : (axis : Axis) (day passed : ℤ) (found : List (List ℕ)) (a b c : List ℕ) (rest : List (List ℕ)) (cut : Option EntryCut) → found ≡ a ∷ b ∷ c ∷ rest → Some day ≡ date_of a → passed ≡ day → ((xs : List (List ℕ)) → entry_then (axis_at axis (Some passed)) b c (λ t. entries_of t (drop 3 xs)) ≡ after_cut xs cut) → entries_of axis found ≡ after_cut found cut
 unfolding entries_of
-dated_entry axis after day found a b c rest is date next =
-    let here = ap (λ d. three_items axis d a b c (λ t. entries_of t (c ∷ rest)) (λ t. entries_of t rest)) (sym date) ∙ ap (λ t. entry_then t b c (λ u. entries_of u rest)) (sym next) in
-    ap (entries_of axis) is ∙ here ∙ sym (ap (λ xs. with_entry (entry_pair after b c) (entries_of after (drop 3 xs))) is)
+dated_cut axis day passed found a b c rest cut is date own read =
+    let here : entries_of axis (a ∷ b ∷ c ∷ rest) ≡ after_cut (a ∷ b ∷ c ∷ rest) cut = ap (λ d. three_items axis d a b c (λ t. entries_of t (c ∷ rest)) (λ t. entries_of t rest)) (sym date) ∙ ap (λ d. entry_then (axis_at axis (Some d)) b c (λ t. entries_of t rest)) (sym own) ∙ read (a ∷ b ∷ c ∷ rest) in
+    subst (λ xs. entries_of axis xs ≡ after_cut xs cut) (sym is) here
 
-pub plain_entry : (axis after : Axis) (found : List (List ℕ)) (a b c : List ℕ) (rest : List (List ℕ)) → found ≡ a ∷ b ∷ c ∷ rest → None ≡ date_of a → Some after ≡ axis_at axis None → entries_of axis found ≡ with_entry (entry_pair after a b) (entries_of after (drop 2 found))
+pub plain_cut : (axis : Axis) (found : List (List ℕ)) (a b c : List ℕ) (rest : List (List ℕ)) (cut : Option EntryCut) → found ≡ a ∷ b ∷ c ∷ rest → None ≡ date_of a → ((xs : List (List ℕ)) → entry_then (axis_at axis None) a b (λ t. entries_of t (drop 2 xs)) ≡ after_cut xs cut) → entries_of axis found ≡ after_cut found cut
 unfolding entries_of
-plain_entry axis after found a b c rest is date next =
-    let here = ap (λ d. three_items axis d a b c (λ t. entries_of t (c ∷ rest)) (λ t. entries_of t rest)) (sym date) ∙ ap (λ t. entry_then t a b (λ u. entries_of u (c ∷ rest))) (sym next) in
-    ap (entries_of axis) is ∙ here ∙ sym (ap (λ xs. with_entry (entry_pair after a b) (entries_of after (drop 2 xs))) is)
+plain_cut axis found a b c rest cut is date read =
+    let here : entries_of axis (a ∷ b ∷ c ∷ rest) ≡ after_cut (a ∷ b ∷ c ∷ rest) cut = ap (λ d. three_items axis d a b c (λ t. entries_of t (c ∷ rest)) (λ t. entries_of t rest)) (sym date) ∙ read (a ∷ b ∷ c ∷ rest) in
+    subst (λ xs. entries_of axis xs ≡ after_cut xs cut) (sym is) here
 
 one_more : (done : List Pair) (pair : Pair) (later : Option Entries) → entries_after done (with_entry pair later) ≡ entries_after (done ++ pair ∷ []) later
 one_more done pair None = refl

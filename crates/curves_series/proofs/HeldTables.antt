@@ -15,7 +15,8 @@ use Rattle.curves_series.specs.Names.{curve_word, series_word, is_used}
 use Rattle.curves_series.specs.Reading.{TableRead, held_of, refusal_of, held_from, refusal_from, some_read, curve_read, series_read}
 use Rattle.curves_series.specs.Series.{series_of, is_file_series}
 use Rattle.curves_series.specs.declared.groups.Groups.{Groups}
-use Rattle.curves_series.specs.internal.Views.{groups_now, group_at, IsEven, HaveLines}
+use Rattle.std.specs.Prelude.{Result, OnOk}
+use Rattle.curves_series.specs.internal.Views.{groups_now, group_at, IsEven, HaveLines, Adds}
 use Rattle.curves_series.proofs.GroupPuts.{names_in}
 
 pub alone : (a : Option Refusal) → earlier a None ≡ a
@@ -82,6 +83,12 @@ pub refusal_end : {A : Type 0} (read : ℕ → Group → TableRead A) (P : A →
 unfolding refusal_from
 refusal_end read P groups at held refusal most so_far =
     sym (refusals-alone refusal) ∙ sym (ap (λ gs. earlier refusal (refusal_from read at gs)) (drop_all at groups most)) ∙ so_far.refusal_all
+
+-- what is read of one more table is added where there is memory
+pub adds : {A T E : Type 0} (result : Result T E) (P : A → Type 0) (old new : List (Option A)) (before after : Option Refusal) (found due : TableRead A) → found ≡ due → IfOk found (λ table. IfSome table P) → OnOk result (new ≡ old ++ held_of found ∷ []) → OnOk result (after ≡ earlier before (refusal_of found)) → OnOk result (Adds old before new after due P)
+adds (Ok done) P old new before after found due is points held lower =
+    subst (λ read. Adds old before new after read P) is (record { held = held; refusal = lower; points = points })
+adds (Err fault) P old new before after found due is points held lower = tt
 
 -- what is read of the table at a place is what the definition says
 pub curve_found : (g : Groups) (controls : List SourceLine) (at : ℕ) (mark : Bool) (found : TableRead CurveTable) → IsEven g → mark ≡ is_used curve_word controls g.names at → found ≡ (if mark then some_read (curve_of (group_at g at)) else Ok None) → found ≡ curve_read controls (groups_now g) at (group_at g at)

@@ -2,7 +2,7 @@
 
 /// What the times of a series are counted from, as far as its entries show it (SWMM 5.2 manual,
 /// [TIMESERIES]).
-#[derive(Clone, Copy, Debug, PartialEq, Eq)]
+#[derive(Clone, Copy, PartialEq, Eq)]
 pub enum Axis {
     /// There is no entry yet.
     Open,

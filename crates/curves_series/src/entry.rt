@@ -1,8 +1,10 @@
 //! The entries of one line of a time series.
 ghost use Rattle.std.specs.Prelude.{◌≡◌, ◌<◌, ◌≤◌, length, option_map, IfOk, IfSome};
+ghost use Rattle.std.specs.Prelude.{ℕ, List, None, Some, drop};
 ghost use Rattle.num_text.specs.Times.{IsReadTime};
 ghost use Rattle.curves_series.specs.Series.{axis_at, fault_of, time_read, hours_of_day, x_on};
 ghost use Rattle.curves_series.specs.Series.{entry_pair, entries_of, behind_name, IsDay, IsAxis};
+ghost use Rattle.curves_series.specs.Series.{entry_then};
 ghost use Rattle.curves_series.specs.internal.Views.{pair_now, texts, after_cut, entries_now};
 
 use crate::axis::Axis;
@@ -115,29 +117,49 @@ fn first_entry<'a>(axis: Axis, found: &[&'a [u8]]) -> Option<EntryCut<'a>>
     match found {
         [first, second] => match read_date(first) {
             Some(_) => None,
-            None => Some(EntryCut {
-                axis: axis_at(axis, None)?,
-                time: first,
-                value: second,
-                taken: 2,
-            }),
+            None => plain_entry(axis, first, second),
         },
         [first, second, third, ..] => match read_date(first) {
-            Some(day) => Some(EntryCut {
-                axis: axis_at(axis, Some(day))?,
-                time: second,
-                value: third,
-                taken: 3,
-            }),
-            None => Some(EntryCut {
-                axis: axis_at(axis, None)?,
-                time: first,
-                value: second,
-                taken: 2,
-            }),
+            Some(day) => dated_entry(axis, day, second, third),
+            None => plain_entry(axis, first, second),
         },
         _ => None,
     }
+}
+
+/// A time and a value without a date; None where the axis wants one.
+fn plain_entry<'a>(axis: Axis, time: &'a [u8], value: &'a [u8]) -> Option<EntryCut<'a>>
+    requires axis { IsAxis axis }
+    ensures value { (found : List (List ℕ)) → entry_then (axis_at axis None) time.now value.now
+        (λ after. entries_of after (drop 2 found)) ≡ after_cut found result }
+    ensures taken { IfSome result (λ cut. cut.taken ≡ 2) }
+    ensures axis { IfSome result (λ cut. IsAxis cut.axis) }
+{
+    let axis = axis_at(axis, None)?;
+    Some(EntryCut {
+        axis,
+        time,
+        value,
+        taken: 2,
+    })
+}
+
+/// A time and a value behind a date; None where a date may not stand.
+fn dated_entry<'a>(axis: Axis, day: i32, time: &'a [u8], value: &'a [u8]) -> Option<EntryCut<'a>>
+    requires axis { IsAxis axis }
+    requires day { IsDay day }
+    ensures value { (found : List (List ℕ)) → entry_then (axis_at axis (Some day)) time.now
+        value.now (λ after. entries_of after (drop 3 found)) ≡ after_cut found result }
+    ensures taken { IfSome result (λ cut. cut.taken ≡ 3) }
+    ensures axis { IfSome result (λ cut. IsAxis cut.axis) }
+{
+    let axis = axis_at(axis, Some(day))?;
+    Some(EntryCut {
+        axis,
+        time,
+        value,
+        taken: 3,
+    })
 }
 
 /// The entries of a line, and the axis after them.

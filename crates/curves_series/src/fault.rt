@@ -1,7 +1,7 @@
 //! Why a name gives no table.
 
 /// Why a name gives no table.
-#[derive(Clone, Copy, Debug, PartialEq, Eq)]
+#[derive(Clone, Copy, PartialEq, Eq)]
 pub enum TableFault {
     /// The name finds no table, or is ambiguous.
     Unknown,

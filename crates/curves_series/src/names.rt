@@ -6,6 +6,7 @@ ghost use Rattle.inp_text.specs.declared.section_kind.SectionKind.TheVariants.{C
 ghost use Rattle.inp_text.specs.internal.Represents.{Represents};
 ghost use Rattle.curves_series.specs.Names.{named_tables, curve_named, series_named, Finds};
 ghost use Rattle.curves_series.specs.Names.{series_numbered};
+ghost use Rattle.curves_series.specs.Groups.{groups_of, names_of};
 ghost use Rattle.curves_series.specs.Series.{names_file};
 ghost use Rattle.curves_series.specs.internal.Views.{lines_now};
 
@@ -62,14 +63,34 @@ impl TableNames {
     ) -> Result<TableNames, NoMemory>
         ensures value { IfOk result (λ names. names ≡ named_tables curves.now series.now) }
     {
-        let curve_groups = groups_of(alloc, curves)?;
-        let series_groups = groups_of(alloc, series)?;
-        let file_series = file_marks(alloc, &series_groups.tables)?;
-        Ok(TableNames {
-            curves: curve_groups.names,
-            series: series_groups.names,
-            file_series,
-        })
+        let groups = groups_of(alloc, series)?;
+        match file_marks(alloc, &groups.tables) {
+            Ok(file_series) => TableNames::with_curves(alloc, curves, groups.names, file_series),
+            Err(_) => Err(NoMemory),
+        }
+    }
+
+    /// The names of the tables of the curves' lines beside those of series.
+    fn with_curves(
+        alloc: Global,
+        curves: &[SourceLine],
+        series: NameTable,
+        file_series: Vec<bool>,
+    ) -> Result<TableNames, NoMemory>
+        ensures value { IfOk result (λ names. names ≡ record {
+          curves = names_of (groups_of curves.now);
+          series = series;
+          file_series = file_series.items;
+        }) }
+    {
+        match names_of(alloc, curves) {
+            Ok(curves) => Ok(TableNames {
+                curves,
+                series,
+                file_series,
+            }),
+            Err(_) => Err(NoMemory),
+        }
     }
 
     /// The curve that a name finds: the one with the same bytes, and failing that the only one that
@@ -108,6 +129,15 @@ impl TableNames {
             _ => Ok(SeriesNo { index }),
         }
     }
+}
+
+/// The names of the tables of these lines.
+#[tactic(auto, using(crate::proofs::GroupPuts::names_in))]
+fn names_of(alloc: Global, lines: &[SourceLine]) -> Result<NameTable, NoMemory>
+    ensures value { IfOk result (λ names. names ≡ names_of (groups_of lines.now)) }
+{
+    let groups = groups_of(alloc, lines)?;
+    Ok(groups.names)
 }
 
 /// Which tables are file series.

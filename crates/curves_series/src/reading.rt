@@ -4,13 +4,14 @@ ghost use Rattle.std.specs.Prelude.{IfSome, OnOk, if◌then◌else◌};
 ghost use Rattle.rule_types.specs.Refusals.{earlier};
 ghost use Rattle.rule_types.specs.Tables.{IsPointList};
 ghost use Rattle.curves_series.specs.Curves.{curve_of};
+ghost use Rattle.curves_series.specs.Groups.{groups_of};
 ghost use Rattle.std.specs.Prelude.{◌&&◌, not};
 ghost use Rattle.std.specs.List.{list_any};
 ghost use Rattle.curves_series.specs.Series.{series_of, names_file, is_file_series, is_dated};
 ghost use Rattle.curves_series.specs.Reading.{held_of, refusal_of, held_from, refusal_from};
 ghost use Rattle.curves_series.specs.Reading.{some_read, curve_read, series_read, tables_in, Reads};
 ghost use Rattle.curves_series.specs.internal.Views.{lines_now, groups_now, group_at, IsEven};
-ghost use Rattle.curves_series.specs.internal.Views.{HaveLines};
+ghost use Rattle.curves_series.specs.internal.Views.{HaveLines, Adds};
 
 use crate::axis::Axis;
 use crate::curve::{curve_lines, has_point};
@@ -195,6 +196,25 @@ fn series_at(
     read_series(alloc, used, name, &table.lines)
 }
 
+/// Adds what is read of the curve at a place.
+fn add_curve_at(
+    read: &mut Held<Curve>,
+    alloc: Global,
+    used: bool,
+    groups: &Groups<'_>,
+    at: usize,
+) -> Result<(), NoMemory>
+    requires within { at < length groups.now.tables.items }
+    requires even { IsEven groups.now }
+    requires lines { HaveLines (groups_now groups.now) }
+    ensures added { OnOk result (Adds read.old.held.items read.old.refusal read.new.held.items
+        read.new.refusal (if used then some_read (curve_of (group_at groups.now at))
+        else Ok None) (λ curve. IsPointList curve.points)) }
+{
+    let table = curve_at(alloc, used, groups, at)?;
+    read.add(table)
+}
+
 /// The used curves of a section, and the lowest refusal on their lines.
 fn read_curves(
     alloc: Global,
@@ -215,10 +235,29 @@ fn read_curves(
     let mut read = Held::new(alloc);
     for at in 0..groups.tables.len() {
         let used = marks[at];
-        let table = curve_at(alloc, used, groups, at)?;
-        read.add(table)?;
+        add_curve_at(&mut read, alloc, used, groups, at)?;
     }
     Ok(read)
+}
+
+/// Adds what is read of the series at a place.
+fn add_series_at(
+    read: &mut Held<Series>,
+    alloc: Global,
+    used: bool,
+    groups: &Groups<'_>,
+    at: usize,
+) -> Result<(), NoMemory>
+    requires within { at < length groups.now.tables.items }
+    requires even { IsEven groups.now }
+    requires lines { HaveLines (groups_now groups.now) }
+    ensures added { OnOk result (Adds read.old.held.items read.old.refusal read.new.held.items
+        read.new.refusal (if used && not (is_file_series (group_at groups.now at))
+        then some_read (series_of (group_at groups.now at)) else Ok None)
+        (λ series. IsPointList series.points)) }
+{
+    let table = series_at(alloc, used, groups, at)?;
+    read.add(table)
 }
 
 /// The used series of a section that are no file series, and the lowest refusal on their lines.
@@ -241,14 +280,49 @@ fn read_all_series(
     let mut read = Held::new(alloc);
     for at in 0..groups.tables.len() {
         let used = marks[at];
-        let table = series_at(alloc, used, groups, at)?;
-        read.add(table)?;
+        add_series_at(&mut read, alloc, used, groups, at)?;
     }
     Ok(read)
 }
 
+/// The used curves of some lines, and the lowest refusal on these lines.
+#[tactic(auto, using(crate::proofs::HeldTables::lines_some))]
+fn used_curves(
+    alloc: Global,
+    controls: &[SourceLine],
+    lines: &[SourceLine],
+) -> Result<Held<Curve>, NoMemory>
+    ensures held { IfOk result (λ read. read.held.items
+        ≡ held_from (curve_read controls.now (groups_of lines.now)) 0 (groups_of lines.now)) }
+    ensures refusal { IfOk result (λ read. read.refusal
+        ≡ refusal_from (curve_read controls.now (groups_of lines.now)) 0 (groups_of lines.now)) }
+    ensures points { IfOk result (λ read. All (λ curve.
+        IfSome curve (λ table. IsPointList table.points)) read.held.items) }
+{
+    let groups = groups_of(alloc, lines)?;
+    read_curves(alloc, controls, &groups)
+}
+
+/// The used series of some lines that are no file series, and the lowest refusal on these lines.
+#[tactic(auto, using(crate::proofs::HeldTables::lines_some))]
+fn used_series(
+    alloc: Global,
+    controls: &[SourceLine],
+    lines: &[SourceLine],
+) -> Result<Held<Series>, NoMemory>
+    ensures held { IfOk result (λ read. read.held.items
+        ≡ held_from (series_read controls.now (groups_of lines.now)) 0 (groups_of lines.now)) }
+    ensures refusal { IfOk result (λ read. read.refusal
+        ≡ refusal_from (series_read controls.now (groups_of lines.now)) 0 (groups_of lines.now)) }
+    ensures points { IfOk result (λ read. All (λ series.
+        IfSome series (λ table. IsPointList table.points)) read.held.items) }
+{
+    let groups = groups_of(alloc, lines)?;
+    read_all_series(alloc, controls, &groups)
+}
+
 /// The used tables of an input file with these lines, or the lowest refusal.
-#[tactic(auto, using(crate::proofs::HeldTables::lines_some), unfolding(crate::specs::Reading::tables_in),)]
+#[tactic(auto, unfolding(crate::specs::Reading::tables_in))]
 fn tables_of(
     alloc: Global,
     controls: &[SourceLine],
@@ -257,10 +331,8 @@ fn tables_of(
 ) -> Result<Result<Tables, Refusal>, NoMemory>
     ensures value { IfOk result (λ read. read ≡ tables_in controls.now curves.now series.now) }
 {
-    let curve_groups = groups_of(alloc, curves)?;
-    let series_groups = groups_of(alloc, series)?;
-    let curves_read = read_curves(alloc, controls, &curve_groups)?;
-    let series_read = read_all_series(alloc, controls, &series_groups)?;
+    let curves_read = used_curves(alloc, controls, curves)?;
+    let series_read = used_series(alloc, controls, series)?;
     match earlier_refusal(curves_read.refusal, series_read.refusal) {
         Some(refusal) => Ok(Err(refusal)),
         None => Ok(Ok(Tables {

@@ -19,7 +19,7 @@ use std::alloc::Global;
 use std::marker::Model;
 
 /// A curve, with its points by rising x.
-#[derive(Debug, Drop)]
+#[derive(Drop)]
 pub(crate) struct Curve {
     pub(crate) name: Bytes,
     pub(crate) points: Vec<Point>,
@@ -34,7 +34,7 @@ impl Model for Curve {
 }
 
 /// A time series, with its points by rising x.
-#[derive(Debug, Drop)]
+#[derive(Drop)]
 pub(crate) struct Series {
     pub(crate) name: Bytes,
     pub(crate) dated: bool,
@@ -55,7 +55,7 @@ impl Model for Series {
 
 /// The used curves and series of an input file, by their numbers: their places, from 0, among all
 /// tables of their section, used or not (SWMM 5.2 manual, [CURVES] and [TIMESERIES]).
-#[derive(Debug, Drop)]
+#[derive(Drop)]
 pub struct Tables {
     pub(crate) curves: Vec<Option<Curve>>,
     pub(crate) series: Vec<Option<Series>>,

@@ -1,7 +1,9 @@
 //! The tables that control lines use.
 ghost use Rattle.std.specs.Prelude.{◌≡◌, ℕ, ◌<◌, ◌||◌, ◌==◌, false, length, get_or};
 ghost use Rattle.std.specs.Prelude.{option_map, IfOk};
+ghost use Rattle.std.specs.Prelude.{OnOk};
 ghost use Rattle.curves_series.specs.Names.{name_used, sets_by, name_behind, finds_at, is_used};
+ghost use Rattle.curves_series.specs.Names.{line_uses};
 ghost use Rattle.curves_series.specs.internal.Views.{texts, is_number};
 
 use byte_edge::NoMemory;
@@ -46,7 +48,7 @@ fn name_used<'a>(word: &[u8], found: &[&'a [u8]]) -> Option<&'a [u8]>
     name_behind(word, &found[count - 3..])
 }
 
-/// The number of the table among these names that a control line uses, if there is one.
+/// The number of the table among these names that the items of a control line use, if there is one.
 fn table_used(
     alloc: Global,
     word: &[u8],
@@ -82,13 +84,69 @@ pub(crate) fn used_marks(
     let Ok(mut marks) = vec![in alloc; false; names.len()] else {
         return Err(NoMemory);
     };
-    for line in controls {
-        let found = cut_line(alloc, line.bytes.as_slice())?;
-        if let Some(number) = table_used(alloc, word, names, &found)? {
-            mark(&mut marks, number as usize);
+    match mark_all(alloc, word, controls, names, &mut marks) {
+        Ok(()) => Ok(marks),
+        Err(_) => {
+            drop(marks);
+            Err(NoMemory)
         }
     }
-    Ok(marks)
+}
+
+/// Marks the tables among these names that the control lines use.
+#[tactic(auto, unfolding(crate::specs::Names::is_used))]
+fn mark_all(
+    alloc: Global,
+    word: &[u8],
+    controls: &[SourceLine],
+    names: &NameTable,
+    marks: &mut [bool],
+) -> Result<(), NoMemory>
+    requires length { length marks.old ≡ length names.now }
+    ensures length { length marks.new ≡ length names.now }
+    ensures value { OnOk result ((k : ℕ) → k < length names.now → get_or marks.new k false
+        ≡ (get_or marks.old k false || is_used word.now controls.now names.now k)) }
+{
+    for line in controls {
+        mark_line(alloc, word, line, names, marks)?;
+    }
+    Ok(())
+}
+
+/// Marks the table among these names that a control line uses, if there is one.
+fn mark_line(
+    alloc: Global,
+    word: &[u8],
+    line: &SourceLine,
+    names: &NameTable,
+    marks: &mut [bool],
+) -> Result<(), NoMemory>
+    ensures length { length marks.new ≡ length marks.old }
+    ensures value { OnOk result ((k : ℕ) → k < length marks.old → get_or marks.new k false
+        ≡ (get_or marks.old k false || line_uses word.now names.now k line.now)) }
+{
+    match table_of_line(alloc, word, line, names) {
+        Ok(Some(number)) => {
+            mark(marks, number as usize);
+            Ok(())
+        }
+        Ok(None) => Ok(()),
+        Err(_) => Err(NoMemory),
+    }
+}
+
+/// The number of the table among these names that a control line uses, if there is one.
+fn table_of_line(
+    alloc: Global,
+    word: &[u8],
+    line: &SourceLine,
+    names: &NameTable,
+) -> Result<Option<u32>, NoMemory>
+    ensures value { (k : ℕ) → IfOk result (λ number. is_number k number
+        ≡ line_uses word.now names.now k line.now) }
+{
+    let found = cut_line(alloc, line.bytes.as_slice())?;
+    table_used(alloc, word, names, &found)
 }
 
 /// Marks a place, if there is one.

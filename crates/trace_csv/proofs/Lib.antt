@@ -7,6 +7,7 @@ pub mod Marks
 pub mod OneDigit
 pub mod Plain
 pub mod PlainFields
+pub mod PlainNumbers
 pub mod RecordFields
 pub mod RowsIn
 pub mod SameDay

@@ -13,7 +13,7 @@ use Rattle.trace_csv.specs.Rows.{moment_checked, moment_in}
 use Rattle.trace_csv.specs.declared.fault.TraceCause.{TraceCause}
 
 -- bytes that are neither blanks nor commas
-abbrev ArePast : List ℕ → Type 0
+abbrev pub ArePast : List ℕ → Type 0
 ArePast [] = Unit
 ArePast (byte ∷ bytes) = (44 < byte) × ArePast bytes
 
@@ -75,7 +75,7 @@ no_front : (text : List ℕ) → ArePast text → without_front_blanks text ≡ 
 no_front [] past = refl
 no_front (byte ∷ bytes) past = ap (λ blank. cond blank (without_front_blanks bytes) (byte ∷ bytes)) (not_blank byte past.0)
 
-trimmed_same : (text : List ℕ) → ArePast text → trimmed text ≡ text
+pub trimmed_same : (text : List ℕ) → ArePast text → trimmed text ≡ text
 trimmed_same text past = ap without_end_blanks (no_front text past) ∙ no_end text past
 
 -- the moment of a line that begins with the text of a moment

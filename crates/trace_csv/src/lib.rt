@@ -9,6 +9,7 @@ mod field;
 mod fill;
 mod header;
 pub mod laws;
+mod plain_number;
 mod record;
 mod row;
 mod row_moment;

@@ -105,11 +105,17 @@ impl WrittenMoment {
     }
 }
 
-/// Whether two texts are the same.
+/// Whether two texts are the same 11 bytes, which are compared as arrays.
 fn is_same(one: &[u8], other: &[u8]) -> bool
     ensures value { IsTrue result → one.now ≡ other.now }
 {
-    one == other
+    let Some(date) = one.as_array::<11>() else {
+        return false;
+    };
+    let Some(kept) = other.as_array::<11>() else {
+        return false;
+    };
+    date == kept
 }
 
 /// The moment of a second of the day of a moment.

@@ -1,10 +1,10 @@
 -- Lists that are written from the last place to the first.
-use Rattle.std.proofs.Common.{◌≡◌, ℕ, zero, suc, ◌<◌, List, [], ◌∷◌, ◌++◌, length, get_or, set, take, drop, Option, Some, None, cond, refl, ap, sym, ◌∙◌, arith, append-nil, drop-cons, ℤ}
+use Rattle.std.proofs.Common.{◌≡◌, ℕ, zero, suc, ◌<◌, List, [], ◌∷◌, ◌++◌, length, get_or, set, take, drop, Option, refl, ap, sym, ◌∙◌, arith, append-nil, drop-cons, ℤ}
 use Rattle.std.proofs.lemmas.List.{take_all, at_drop_all}
 use Rattle.exact_fraction.specs.Number.{Rational}
 use Rattle.rule_types.specs.declared.state.LinkState.{LinkState}
-use Rattle.rule_meaning.specs.History.{stayed}
-use Rattle.rule_meaning.specs.Replay.{timer_at, links_at, is_switch, switches_after}
+use Rattle.rule_meaning.specs.History.{Standing, stayed}
+use Rattle.rule_meaning.specs.Replay.{timer_at, links_at}
 
 -- an item before those that were written
 pub written : {A : Type 0} (old rest : List A) (k : ℕ) (item : A) → k < length old
@@ -55,27 +55,10 @@ timers_step start moment old switches k at d e links timer next within each is r
     at_place : {A : Type 0} (xs : List A) (k : ℕ) (d : A) → k < length xs → drop k xs ≡ get_or xs k d ∷ drop (suc k) xs
     at_place xs k d within = drop-cons xs k d within
 
--- ---- switches
-pub switches_start : (moment : ℤ) (links moved : List LinkState) (switches : List (Option ℤ)) → length links ≡ length switches
-    → switches ≡ take (length switches) switches ++ switches_after moment (drop (length switches) links) (stayed (drop (length switches) moved)) (drop (length switches) switches)
-unfolding switches_after
-switches_start moment links moved switches each =
-    sym (append-nil switches)
-    ∙ sym (ap (λ list. list ++ []) (take_all (length switches) switches (omega arith)))
-    ∙ sym (at_drop_all (λ list. take (length switches) switches ++ switches_after moment list (stayed (drop (length switches) moved)) (drop (length switches) switches)) links (length switches) (omega arith))
-
-pub switches_step : (moment : ℤ) (links moved : List LinkState) (old : List (Option ℤ)) (k at : ℕ) (d e : LinkState) (switches : List (Option ℤ)) (new : Option ℤ)
-    → at ≡ suc k → k < length old → length links ≡ length old → length moved ≡ length old
-    → switches ≡ take at old ++ switches_after moment (drop at links) (stayed (drop at moved)) (drop at old)
-    → new ≡ cond (is_switch (get_or links k d).setting (get_or moved k e).setting) (Some moment) (get_or switches k None)
-    → set switches k new ≡ take k old ++ switches_after moment (drop k links) (stayed (drop k moved)) (drop k old)
-unfolding switches_after
-switches_step moment links moved old k at d e switches new next within each_link each_moved is chosen =
-    let before : switches ≡ take (suc k) old ++ switches_after moment (drop (suc k) links) (stayed (drop (suc k) moved)) (drop (suc k) old) =
-    is ∙ ap (λ n. take n old ++ switches_after moment (drop n links) (stayed (drop n moved)) (drop n old)) next in
-    let here : get_or switches k None ≡ get_or old k None = ap (λ list. get_or list k None) before ∙ as_before old _ k None within in
-    ap (λ list. set list k new) before
-    ∙ written old (switches_after moment (drop (suc k) links) (stayed (drop (suc k) moved)) (drop (suc k) old)) k new within
-    ∙ ap (λ item. take k old ++ item ∷ switches_after moment (drop (suc k) links) (stayed (drop (suc k) moved)) (drop (suc k) old))
-    (chosen ∙ ap (cond (is_switch (get_or links k d).setting (get_or moved k e).setting) (Some moment)) here)
-    ∙ sym (λ i. take k old ++ switches_after moment (drop-cons links k d (rw each_link within) i) (stayed (drop-cons moved k e (rw each_moved within) i)) (drop-cons old k None within i))
+-- settings and targets stay
+pub stayed_timed : (start moment : ℤ) (standings : List Standing) (switches : List (Option ℤ)) → length standings ≡ length switches
+    → stayed (links_at start moment standings switches) ≡ standings
+unfolding links_at
+stayed_timed start moment [] switches long = refl
+stayed_timed start moment (at ∷ more) [] long = absurd (omega (arith, long))
+stayed_timed start moment (at ∷ more) (switch ∷ switches) long = ap (λ later. at ∷ later) (stayed_timed start moment more switches (omega (arith, long)))

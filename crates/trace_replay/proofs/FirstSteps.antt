@@ -254,6 +254,11 @@ settings_are x links places order long all =
     same_slices (settings_at links places) (controlled_settings x (stayed links))
     (λ j. setting_same x links places j (slice_get x.controlled j) order long all refl)
 
+pub settings_stay : (x : Rules) (before after : List LinkState) (places : List ℕ) (settings : List Rational) → InOrder x → length after ≡ length x.tracked → ArePlaces x places
+    → settings ≡ controlled_settings x (stayed before) → stayed after ≡ stayed before → settings ≡ settings_at after places
+settings_stay x before after places settings order long all is same =
+    is ∙ ap (controlled_settings x) (sym same) ∙ sym (settings_are x after places order long all)
+
 pub places_within : (x : Rules) (links : List LinkState) (places : List ℕ) → length links ≡ length x.tracked → ArePlaces x places
     → All (λ place. place < length links) places
 places_within x links places long all = λ k d below.

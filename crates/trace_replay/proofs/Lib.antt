@@ -2,6 +2,7 @@ pub mod BackToFront
 pub mod FirstSteps
 pub mod Followers
 pub mod LinkSteps
+pub mod LinkSwitches
 pub mod PublicLaws
 pub mod Reaching
 pub mod RowFacts

@@ -72,7 +72,7 @@ stayed_push : (links : List LinkState) (link : LinkState) → stayed (links ++ l
 stayed_push [] link = refl
 stayed_push (first ∷ links) link = ap (λ rest. record { setting = first.setting; target = first.target } ∷ rest) (stayed_push links link)
 
-drop_at : {A : Type 0} (xs : List A) (k : ℕ) (x : A) → slice_get xs k ≡ Some x → drop k xs ≡ x ∷ drop (k + 1) xs
+pub drop_at : {A : Type 0} (xs : List A) (k : ℕ) (x : A) → slice_get xs k ≡ Some x → drop k xs ≡ x ∷ drop (k + 1) xs
 drop_at xs k x is = drop_more xs k x (slice_get_within xs k x is) ∙ ap (λ y. y ∷ drop (k + 1) xs) (get_or_from_slice_get xs k x x is)
 
 moved_first : (gap : Rational) (orders : List Order) (link : ℕ) (links : List ℕ) (rate : Rational) (rates : List Rational) (old : LinkState) (states : List LinkState)

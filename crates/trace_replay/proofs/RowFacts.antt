@@ -6,6 +6,7 @@ use Rattle.std.proofs.lemmas.List.Elements.{All-head, All-tail}
 use Rattle.std.proofs.lemmas.Option.{none-some, same_Some, slice_get_within, get_or_from_slice_get}
 use Rattle.std.proofs.lemmas.Bool.Decides.{nat_tests}
 use Rattle.std.specs.Prelude.{slice_get, IsTrue, IfOk, OnOk, All}
+use Rattle.std.specs.Result.{result_err}
 use Rattle.std.specs.List.{AllZip}
 use Rattle.std.specs.List.Sorted.{IsStrictlyIncreasing}
 use Rattle.exact_fraction.specs.Number.{Rational, ratio, gcd, last_remainder, cancelled, whole, den, zero, one}
@@ -27,7 +28,7 @@ use Rattle.rule_meaning.specs.Clock.{hours_of}
 use Rattle.rule_meaning.specs.History.{memory_read, reading_by, new_target}
 use Rattle.rule_meaning.specs.Memories.{memory_of, memories_after}
 use Rattle.rule_meaning.specs.Reading.{Choice, OrderFits, read_by}
-use Rattle.rule_meaning.specs.Replay.{RowsFit, IsWithinOne, replayed_by, state_after_by, last_moment, start_or, step_since, links_at}
+use Rattle.rule_meaning.specs.Replay.{RowsFit, IsWithinOne, replayed_by, state_after_by, last_moment, start_or, step_since, links_at, stop_of}
 use Rattle.rule_meaning.specs.Worth.{rate_of}
 use Rattle.rule_meaning.proofs.PublicLaws.{replay-fit, replay-within_one, orders-values, orders-rise, links_by_place-rate, memories-list, memories-as_many}
 use Rattle.replay_meaning.specs.Kept.{Kept, state_of, reading_of, gap_since, due_at}
@@ -207,3 +208,7 @@ pub when_read : (P : List Order → Type 0) (result : Result (Unit {0}) Stop) (o
     → given result orders ≡ read → ((found : List Order) → read ≡ Ok found → P found) → OnOk result (P orders)
 when_read P (Ok done) orders read is each = each orders (sym is)
 when_read P (Err stop) orders read is each = tt
+
+pub stop_same : (result : Result (Unit {0}) Stop) (orders : List Order) → result_err result ≡ stop_of (given result orders)
+stop_same (Ok done) orders = refl
+stop_same (Err stop) orders = refl

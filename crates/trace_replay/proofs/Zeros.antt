@@ -55,3 +55,11 @@ stays_open was now was_open is =
     and_false : (b : Bool) → false ≡ (b && false)
     and_false true = refl
     and_false false = refl
+
+-- ---- a link that stays
+not_switched_by : (q : Rational) (b : Bool) → is_zero q ≡ b → is_switch q q ≡ false
+not_switched_by q true is = sym (was_closed q q is) ∙ not_below q is
+not_switched_by q false is = sym (stays_open q q is is)
+
+pub not_switched : (q : Rational) → is_switch q q ≡ false
+not_switched q = not_switched_by q (is_zero q) refl

@@ -28,7 +28,6 @@ ArePlaces x places =
 -- actions, and the settings of the controlled links stand in a list of their own.
 pub record IsProgressOf (x : Rules) (progress : Progress) : Type 0 where
   pub links : length progress.links.items ≡ length x.tracked
-  pub moved : length progress.moved.items ≡ length x.tracked
   pub switches : length progress.switches.items ≡ length x.tracked
   pub inputs : length progress.inputs.items ≡ length x.input_keys
   pub memories : length progress.memories.items ≡ pid_count x.rules

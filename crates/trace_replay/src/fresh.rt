@@ -26,7 +26,6 @@ pub(crate) fn first_progress(alloc: Global, rules: &Rules) -> Result<Progress, N
 {
     let known = KnownHours::new(alloc)?;
     let links = first_links(alloc, rules.initial.as_slice())?;
-    let moved = first_links(alloc, rules.initial.as_slice())?;
     let switches = vec![in alloc; None; rules.tracked.len()]?;
     let memories = fresh_memories(alloc, rules.rules.as_slice())?;
     let inputs = vec![in alloc; None; rules.input_keys.len()]?;
@@ -36,7 +35,6 @@ pub(crate) fn first_progress(alloc: Global, rules: &Rules) -> Result<Progress, N
     Ok(Progress {
         alloc,
         links,
-        moved,
         switches,
         memories,
         inputs,

@@ -11,8 +11,6 @@ pub struct Progress {
     pub(crate) alloc: Global,
     /// Where each tracked link stands, with its timer at the last row.
     pub(crate) links: Vec<LinkState>,
-    /// Room for where they stand after a row.
-    pub(crate) moved: Vec<LinkState>,
     /// The moment of the last switch of each tracked link.
     pub(crate) switches: Vec<Option<Moment>>,
     pub(crate) memories: Vec<PidMemory>,

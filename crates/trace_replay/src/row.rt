@@ -1,5 +1,5 @@
 //! One row of a replay.
-ghost use Rattle.std.specs.Prelude.{◌≡◌, None, OnOk, length, map};
+ghost use Rattle.std.specs.Prelude.{◌≡◌, None, false, OnOk, length, map};
 ghost use Rattle.std.specs.List.Sorted.{IsStrictlyIncreasing};
 ghost use Rattle.exact_fraction.specs.Number.{zero};
 ghost use Rattle.exact_fraction.specs.Order.{◌≤ℚ◌};
@@ -10,6 +10,7 @@ ghost use Rattle.rule_types.specs.WellFormed.{WellFormed};
 ghost use Rattle.rule_meaning.specs.History.{stayed, standings_after};
 ghost use Rattle.rule_meaning.specs.Memories.{memory_of};
 ghost use Rattle.rule_meaning.specs.Reading.{read_by};
+ghost use Rattle.rule_meaning.specs.Replay.{switches_after};
 ghost use Rattle.replay_meaning.specs.Kept.{after_row};
 ghost use Rattle.replay_meaning.specs.Standing.{CanFollow};
 ghost use Rattle.trace_replay.specs.Answers.{row_at};
@@ -22,8 +23,7 @@ ghost use Rattle.trace_replay.specs.internal.Rows.{state_at};
 use crate::follow::follow;
 use crate::progress::Progress;
 use crate::reads::Reads;
-use crate::settings::copy_settings;
-use crate::switches::note_switches;
+use crate::settings::copy_changed;
 use crate::timers::set_timers;
 use crate::times::{gap_at, is_due, last_due, start_at, step_at};
 use exact_fraction::frac::Frac;
@@ -88,22 +88,21 @@ pub(crate) fn take_row<R: Reads>(
         &mut progress.memories,
     );
     let orders = orders_of(readings, due);
-    stand(
+    let changed = stand(
         rules,
         &read,
         &gap,
         orders,
-        &progress.links,
-        &mut progress.moved,
-    );
-    note_switches(
+        &mut progress.links,
         &mut progress.switches,
-        &progress.links,
-        &progress.moved,
         moment,
     );
-    mem::swap(&mut progress.links, &mut progress.moved);
-    copy_settings(&progress.places, &progress.links, &mut progress.settings);
+    copy_changed(
+        changed,
+        &progress.places,
+        &progress.links,
+        &mut progress.settings,
+    );
     progress.start = Some(start);
     progress.last = Some(moment);
     progress.due = last_due(due, moment, progress.due);
@@ -208,26 +207,32 @@ fn orders_of<R: Reads>(readings: &R, due: bool) -> &[Order]
     &[]
 }
 
-/// Writes into `after` where the links stand after the reading of a row.
+/// Moves the links after the reading of a row, and notes its moment as that of the last switch of
+/// each link that it switches. False only where all links stay as they were, as after a stop.
 fn stand(
     rules: &Rules,
     read: &Result<(), Stop>,
     gap: &Frac,
     orders: &[Order],
-    links: &[LinkState],
-    after: &mut [LinkState],
-)
+    links: &mut [LinkState],
+    switches: &mut [Option<Moment>],
+    moment: Moment,
+) -> bool
     requires well_formed { WellFormed rules.now }
-    requires each_link { length links.now ≡ length rules.now.tracked }
-    requires each_after { length after.old ≡ length rules.now.tracked }
+    requires each_link { length links.old ≡ length rules.now.tracked }
+    requires each_switch { length switches.old ≡ length rules.now.tracked }
     requires gap { zero ≤ℚ gap.now }
     requires in_order { OnOk read.now
         (IsStrictlyIncreasing (map (λ order. order.link) orders.now)) }
     requires can_move { OnOk read.now
-        (CanMove orders.now rules.now.tracked rules.now.rates links.now) }
-    ensures after { (state : AnyState) → state.links ≡ links.now
-        → stayed after.new
+        (CanMove orders.now rules.now.tracked rules.now.rates links.old) }
+    ensures links { (state : AnyState) → state.links ≡ links.old
+        → stayed links.new
         ≡ standings_after rules.now gap.now state (given read.now orders.now) }
+    ensures switches { (state : AnyState) → state.links ≡ links.old
+        → switches.new ≡ switches_after moment links.old
+        (standings_after rules.now gap.now state (given read.now orders.now)) switches.old }
+    ensures unchanged { result ≡ false → links.new ≡ links.old }
 {
     match read {
         Ok(()) => follow(
@@ -236,8 +241,9 @@ fn stand(
             rules.tracked.as_slice(),
             rules.rates.as_slice(),
             links,
-            after,
+            switches,
+            moment,
         ),
-        Err(_) => after.copy_from_slice(links),
+        Err(_) => false,
     }
 }

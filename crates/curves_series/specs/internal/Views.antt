@@ -1,10 +1,12 @@
 -- What the parts of the reader stand for in the words of the definitions.
 use Rattle.std.specs.Prelude.{◌≡◌, ℕ, Option, None, Some, Result, Ok, Err, List, [], ◌∷◌, ◌++◌}
 use Rattle.std.specs.Prelude.{Bool, false, ◌==◌, ◌<◌, All, map, length, drop, get_or, option_map}
+use Rattle.std.specs.Prelude.{IfOk, IfSome}
 use Rattle.std.specs.Borrow.{Bor}
 use Rattle.std.specs.Global.{Vec}
 use Rattle.exact_fraction.specs.Number.{Rational}
 use Rattle.inp_text.specs.declared.source_line.SourceLine.{SourceLine}
+use Rattle.rule_types.specs.Refusals.{earlier}
 use Rattle.rule_types.specs.declared.refusal.Refusal.{Refusal}
 use Rattle.rule_types.specs.declared.table.Point.{Point}
 use Rattle.curves_series.specs.Pairs.{Pair, LineRead}
@@ -18,6 +20,7 @@ use Rattle.curves_series.specs.declared.entry.EntryCut.{EntryCut}
 use Rattle.curves_series.specs.declared.entry.EntriesRead.{EntriesRead}
 use Rattle.curves_series.specs.declared.series.SeriesSoFar.{SeriesSoFar}
 use Rattle.curves_series.specs.declared.groups.Groups.{Groups}
+use Rattle.curves_series.specs.Reading.{TableRead, held_of, refusal_of}
 
 -- a pair that was read
 abbrev pub pair_now : PairRead → Pair
@@ -116,6 +119,15 @@ SeriesLinesRead due (Err refusal) = due ≡ Err refusal
 abbrev pub is_number : ℕ → Option ℕ → Bool
 is_number k None = false
 is_number k (Some number) = k == number
+
+-- what was read of one more table is held and its refusal compared, and a table that was read has
+-- the property
+pub record Adds {A : Type 0} (old : List (Option A)) (before : Option Refusal)
+    (new : List (Option A)) (after : Option Refusal) (read : TableRead A) (P : A → Type 0) : Type 0
+  where
+    pub held : new ≡ old ++ held_of read ∷ []
+    pub refusal : after ≡ earlier before (refusal_of read)
+    pub points : IfOk read (λ table. IfSome table P)
 
 -- each table has a line
 abbrev pub HaveLines : List Group → Type 0

@@ -1,4 +1,4 @@
-use Rattle.std.proofs.Common.{rules, ◌<◌, ◌≤◌, [], false, length, ◌∙◌, arith}
+use Rattle.std.proofs.Common.{rules, ◌<◌, ◌≤◌, [], false, length, refl, ◌∙◌, arith}
 use Rattle.std.proofs.lemmas.List.{get_or_default}
 use Rattle.rule_types.specs.Tables.{IsPointList}
 use Rattle.curves_series.specs.Reading.{series_read}
@@ -22,13 +22,11 @@ loop-at-preserved c =
     let used =
     c.index-used.ensures ∙ get_or_default marks l.at _ false marked
     ∙ c.in_ok-marks.ensures.value l.at named in
-    let found =
-    series_found g c.args.controls.now l.at _ c.in_ok-table.table c.requires.even used
-    c.in_ok-table.ensures.value in
+    let added = c.in_ok-add_series_at.ensures.added in
+    let found = series_found g c.args.controls.now l.at _ _ c.requires.even used refl in
     read_more (series_read c.args.controls.now (groups_now g)) (λ table. IsPointList table.points)
-    (groups_now g) l.at (record { name = []; lines = [] }) l.read.held.items _ l.read.refusal _
-    c.in_ok-table.table (omega (arith, within, many)) found c.in_ok-table.ensures.points
-    c.in_ok-add.ensures.held c.in_ok-add.ensures.refusal l.invariant
+    (groups_now g) l.at (record { name = []; lines = [] }) l.read.held.items _ l.read.refusal _ _
+    (omega (arith, within, many)) found added.points added.held added.refusal l.invariant
 
 pub returns-clause-held : goal.returns-clause-held
 returns-clause-held c =

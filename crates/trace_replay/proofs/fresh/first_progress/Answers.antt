@@ -20,7 +20,7 @@ pub returns-clause-kept : goal.returns-clause-kept
 returns-clause-kept c =
     let standings = c.in_ok-links.ensures.standings ∙ ap first_standings c.as_slice.ensures.value in
     let switches = c.in_ok-switches.ensures.items_if_clones_equal (λ y h. search rules) ∙ ap (λ n. replicate n None) c.len.ensures.value ∙ unswitched_is c.args.rules.now.tracked in
-    let memories = c.in_ok-memories.ensures.fresh ∙ ap (λ r. replicate (pid_count r) fresh) c.as_slice-3.ensures.value in
+    let memories = c.in_ok-memories.ensures.fresh ∙ ap (λ r. replicate (pid_count r) fresh) c.as_slice-2.ensures.value in
     λ i. record {
       standings = standings i;
       switches = switches i;
@@ -36,13 +36,12 @@ returns-clause-fits c =
     let long : length c.in_ok-links.links.items ≡ length c.args.rules.now.tracked = c.in_ok-links.ensures.each ∙ ap length c.as_slice.ensures.value ∙ c.requires.well_formed.initial in
     record {
       links = long;
-      moved = c.in_ok-moved.ensures.each ∙ ap length c.as_slice-2.ensures.value ∙ c.requires.well_formed.initial;
       switches =
           ap length (c.in_ok-switches.ensures.items_if_clones_equal (λ y h. search rules)) ∙ length-replicate c.len.result None ∙ c.len.ensures.value;
       inputs =
           ap length (c.in_ok-inputs.ensures.items_if_clones_equal (λ y h. search rules)) ∙ length-replicate c.len-2.result None ∙ c.len-2.ensures.value;
       memories =
-          ap length (c.in_ok-memories.ensures.fresh ∙ ap (λ r. replicate (pid_count r) fresh) c.as_slice-3.ensures.value) ∙ length-replicate (pid_count c.args.rules.now.rules) fresh;
+          ap length (c.in_ok-memories.ensures.fresh ∙ ap (λ r. replicate (pid_count r) fresh) c.as_slice-2.ensures.value) ∙ length-replicate (pid_count c.args.rules.now.rules) fresh;
       places = c.in_ok-places.ensures.places;
       settings =
           with_items_is c.in_ok-settings.settings c.copy_settings.new.settings (search rules)
