@@ -1,5 +1,5 @@
 -- The bounds of the links of a network.
-use Rattle.std.proofs.Common.{ℕ, Bool, true, false, cond, List, [], ◌∷◌, Option, None, Some, Ok, Err, pos, refl}
+use Rattle.std.proofs.Common.{◌≡◌, sym, ap, ℕ, Bool, true, false, cond, List, [], ◌∷◌, Option, None, Some, Ok, Err, pos, refl}
 use Rattle.std.specs.Prelude.{IfOk, All, codes}
 use Rattle.std.proofs.lemmas.List.Elements.{All-append, All-cons, All-nil}
 use Rattle.exact_fraction.specs.Number.{Rational, zero, one, whole, den}
@@ -18,12 +18,17 @@ use Rattle.control_lines.specs.Faults.{Checked, both, then_with, refused_where, 
 use Rattle.network_lines.specs.Bounds.{IsLinkData}
 use Rattle.network_lines.specs.Limits.{room_for, most_objects}
 use Rattle.network_lines.specs.Objects.{link_of, link_read, pump_setting, pump_item, orifice_rate, orifice_item}
-use Rattle.network_lines.specs.Objects.{line_read_as, line_read, data_of, links_with}
+use Rattle.network_lines.specs.Objects.{line_read_as, line_read, object_read, data_of, links_with}
 use Rattle.network_lines.specs.Objects.{is_taken, network_with, network_from, no_network, section_object}
 use Rattle.network_lines.specs.declared.network.LinkData.{LinkData}
 use Rattle.network_lines.specs.declared.network.Network.{Network}
 use Rattle.network_lines.proofs.ValueBounds.{status, travel_time, at_most_one}
 use Rattle.network_lines.proofs.ValueBounds.{zero_at_most_zero, zero_at_most_one}
+
+-- what is read of a line of a section of objects, by their kind
+pub read_kind : (network : Network) (found : SectionLine) (kind : ObjectKind) → section_object found.kind ≡ Some kind → object_read network kind (items found.line.bytes) (first_item found.line.bytes) ≡ line_read network found
+unfolding line_read
+read_kind network found kind is = sym (ap (λ k. line_read_as k network found.line) is)
 
 rate_zero : IsRate zero
 unfolding less whole den

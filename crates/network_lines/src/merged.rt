@@ -11,7 +11,7 @@ use inp_text::{SectionKind, Sections, SourceLine};
 use std::alloc::Global;
 
 /// A line of a section.
-#[derive(Clone, Copy, Debug)]
+#[derive(Clone, Copy)]
 pub(crate) struct ObjectLine<'a> {
     pub(crate) section: SectionKind,
     pub(crate) line: &'a SourceLine,
@@ -26,30 +26,30 @@ pub(crate) fn object_lines(
     ensures value { IfOk result (λ found. lines_now found.items
         ≡ object_lines (kept sections.now.kept)) }
 {
-    let outlets = with_section(alloc, sections, SectionKind::Outlets, &[])?;
-    let weirs = with_section(alloc, sections, SectionKind::Weirs, &outlets)?;
-    let orifices = with_section(alloc, sections, SectionKind::Orifices, &weirs)?;
-    let pumps = with_section(alloc, sections, SectionKind::Pumps, &orifices)?;
-    let conduits = with_section(alloc, sections, SectionKind::Conduits, &pumps)?;
-    let storage = with_section(alloc, sections, SectionKind::Storage, &conduits)?;
-    let dividers = with_section(alloc, sections, SectionKind::Dividers, &storage)?;
-    let outfalls = with_section(alloc, sections, SectionKind::Outfalls, &dividers)?;
-    let junctions = with_section(alloc, sections, SectionKind::Junctions, &outfalls)?;
-    with_section(alloc, sections, SectionKind::Gages, &junctions)
+    let found = with_section(alloc, sections, SectionKind::Outlets, Vec::new(alloc))?;
+    let found = with_section(alloc, sections, SectionKind::Weirs, found)?;
+    let found = with_section(alloc, sections, SectionKind::Orifices, found)?;
+    let found = with_section(alloc, sections, SectionKind::Pumps, found)?;
+    let found = with_section(alloc, sections, SectionKind::Conduits, found)?;
+    let found = with_section(alloc, sections, SectionKind::Storage, found)?;
+    let found = with_section(alloc, sections, SectionKind::Dividers, found)?;
+    let found = with_section(alloc, sections, SectionKind::Outfalls, found)?;
+    let found = with_section(alloc, sections, SectionKind::Junctions, found)?;
+    with_section(alloc, sections, SectionKind::Gages, found)
 }
 
-/// The lines of a section merged with others.
+/// The lines of a section merged with others, which are let go.
 fn with_section<'a>(
     alloc: Global,
     sections: &'a Sections,
     section: SectionKind,
-    others: &[ObjectLine<'a>],
+    others: Vec<ObjectLine<'a>>,
 ) -> Result<Vec<ObjectLine<'a>>, NoMemory>
     ensures { IfOk result (λ found. lines_now found.items
         ≡ merged (map (in_section section) (kept sections.now.kept section))
-        (lines_now others.now)) }
+        (lines_now others.entry.items)) }
 {
-    merged(alloc, section, sections.lines(section), others)
+    merged(alloc, section, sections.lines(section), others.as_slice())
 }
 
 /// The lines of a section merged with others by their numbers.
@@ -63,13 +63,31 @@ fn merged<'a>(
         ≡ merged (map (in_section section) first.now) (lines_now others.now)) }
 {
     let mut all = Vec::new(alloc);
+    match push_merged(&mut all, section, first, others) {
+        Ok(()) => Ok(all),
+        Err(_) => {
+            drop(all);
+            Err(NoMemory)
+        }
+    }
+}
+
+/// Adds the lines of a section merged with others by their numbers.
+fn push_merged<'a>(
+    all: &mut Vec<ObjectLine<'a>>,
+    section: SectionKind,
+    first: &'a [SourceLine],
+    others: &[ObjectLine<'a>],
+) -> Result<(), NoMemory>
+    ensures { OnOk result (lines_now all.new.items ≡ lines_now all.old.items
+        ++ merged (map (in_section section) first.now) (lines_now others.now)) }
+{
     let mut at = 0;
     for line in first {
-        at = push_before(&mut all, line.number, others, at)?;
-        push_line(&mut all, ObjectLine { section, line })?;
+        at = push_before(all, line.number, others, at)?;
+        push_line(all, ObjectLine { section, line })?;
     }
-    push_rest(&mut all, others, at)?;
-    Ok(all)
+    push_rest(all, others, at)
 }
 
 /// Adds those of the others, from a place on, that stand before a line of this number, and returns

@@ -1,7 +1,8 @@
 //! The network of an input file: its objects, and what is read of its links.
-ghost use Rattle.std.specs.Prelude.{◌≡◌, Some, IfOk, OnOk};
+ghost use Rattle.std.specs.Prelude.{◌≡◌, None, Some, IfOk, OnOk};
 ghost use Rattle.std.specs.Option.{option_or};
 ghost use Rattle.inp_text.specs.internal.Represents.{kept};
+ghost use Rattle.inp_text.specs.Headings.{first_of as first_item_of};
 ghost use Rattle.object_index.specs.Objects.{is_link as is_link_kind};
 ghost use Rattle.control_lines.specs.Faults.{refusal_at, refusal_on};
 ghost use Rattle.control_lines.specs.Views.{checked_now, fault_now, texts};
@@ -27,7 +28,7 @@ use std::alloc::Global;
 const MOST_OBJECTS: usize = 65_536;
 
 /// What is read of a link's line.
-#[derive(Clone, Copy, Debug)]
+#[derive(Clone, Copy)]
 pub struct LinkData {
     /// The initial setting.
     pub setting: Frac,
@@ -72,20 +73,44 @@ fn network_of(alloc: Global, lines: &[ObjectLine<'_>]) -> Result<NetworkRead, No
     ensures refusal { IfOk result (λ read. read.refusal
         ≡ objects_refusal no_network (lines_now lines.now)) }
 {
-    let mut read = NetworkRead {
-        network: Network {
-            objects: ObjectIndex::new(alloc),
-            links: Items::new(alloc),
-        },
-        refusal: None,
-    };
-    for line in lines {
-        read.take(alloc, line)?;
+    let mut read = NetworkRead::new(alloc);
+    match read.take_all(alloc, lines) {
+        Ok(()) => Ok(read),
+        Err(_) => {
+            drop(read);
+            Err(NoMemory)
+        }
     }
-    Ok(read)
 }
 
 impl NetworkRead {
+    /// No objects, and no refusal.
+    fn new(alloc: Global) -> NetworkRead
+        ensures network { result.network ≡ no_network }
+        ensures refusal { result.refusal ≡ None }
+    {
+        NetworkRead {
+            network: Network {
+                objects: ObjectIndex::new(alloc),
+                links: Items::new(alloc),
+            },
+            refusal: None,
+        }
+    }
+
+    /// Takes lines in the order of the file.
+    fn take_all(&mut self, alloc: Global, lines: &[ObjectLine<'_>]) -> Result<(), NoMemory>
+        ensures network { OnOk result (self.new.network
+            ≡ network_from self.old.network (lines_now lines.now)) }
+        ensures refusal { OnOk result (self.new.refusal ≡ option_or self.old.refusal
+            (objects_refusal self.old.network (lines_now lines.now))) }
+    {
+        for line in lines {
+            self.take(alloc, line)?;
+        }
+        Ok(())
+    }
+
     /// Takes one more line.
     #[tactic(auto, unfolding(crate::specs::Objects::line_read))]
     fn take(&mut self, alloc: Global, found: &ObjectLine<'_>) -> Result<(), NoMemory>
@@ -118,10 +143,28 @@ impl NetworkRead {
             (line_now found.now)))) }
     {
         let items = cut_line(alloc, found.line.bytes.as_slice())?;
-        let name = first_of(items.as_slice());
-        let checked = read_object(&self.network, kind, items.as_slice(), name);
+        self.take_items(alloc, kind, found.line.number, items.as_slice())
+    }
+
+    /// Takes the items of one more line of an object.
+    fn take_items(
+        &mut self,
+        alloc: Global,
+        kind: ObjectKind,
+        number: u64,
+        items: &[&[u8]],
+    ) -> Result<(), NoMemory>
+        ensures network { OnOk result (self.new.network ≡ with_new self.old.network kind
+            (first_item_of (texts items.now)) (data_in (object_read self.old.network kind
+            (texts items.now) (first_item_of (texts items.now))))) }
+        ensures refusal { OnOk result (self.new.refusal ≡ option_or self.old.refusal
+            (refusal_at number (object_read self.old.network kind (texts items.now)
+            (first_item_of (texts items.now))))) }
+    {
+        let name = first_of(items);
+        let checked = read_object(&self.network, kind, items, name);
         let data = data_of(&checked);
-        self.refuse(alloc, found.line.number, &checked)?;
+        self.refuse(alloc, number, &checked)?;
         self.network.add(kind, name, data)
     }
 

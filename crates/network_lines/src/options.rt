@@ -26,7 +26,7 @@ use rule_types::{Cause, Refusal};
 use std::alloc::Global;
 
 /// The options that are read (SWMM 5.2 manual, [OPTIONS]).
-#[derive(Clone, Copy, Debug)]
+#[derive(Clone, Copy)]
 pub struct OptionSet {
     /// The day number of START_DATE.
     pub start_day: Option<i32>,
@@ -39,7 +39,7 @@ pub struct OptionSet {
 }
 
 /// The options of some lines, and the first refusal among these lines.
-#[derive(Debug, Drop)]
+#[derive(Drop)]
 pub struct OptionsRead {
     pub options: OptionSet,
     pub refusal: Option<Refusal>,

@@ -15,7 +15,7 @@ use num_text::times::{read_hours, read_time};
 use rule_types::Cause;
 
 /// What an item is to write (SWMM 5.2 manual, [CONTROLS]).
-#[derive(Clone, Copy, Debug, PartialEq, Eq)]
+#[derive(Clone, Copy, PartialEq, Eq)]
 pub enum ValueKind {
     /// A status word.
     Status,

@@ -8,6 +8,7 @@ use Rattle.std.proofs.lemmas.List.{take-append-drop, take_more, drop_more, take_
 use Rattle.std.proofs.lemmas.List.Elements.{All-head, All-weaker}
 use Rattle.std.proofs.lemmas.List.Folds.{find-append}
 use Rattle.rule_types.specs.declared.action.ActionAt.{ActionAt}
+use Rattle.table_plan.specs.declared.piece_rows.PieceRow.{PieceRow}
 use Rattle.table_plan.specs.declared.plan_rows.PlanClause.{PlanClause}
 use Rattle.table_plan.specs.declared.plan_rows.PlanPart.{PlanPart}
 use Rattle.table_plan.specs.declared.plan_rows.PlanPart.TheVariants.{Pieces, Number}
@@ -132,10 +133,10 @@ module _ (old new : List (Option ℕ)) where
   order_kept plan table all keeps truth other = sym (kept_at plan.tables all table keeps other truth)
 
 -- ---- what a table knows of its rows
-pub knows_made : (read columns : List ℕ) (number : Bool) (rows first second made : List PlanRow) → columns ≡ read → made ≡ rows → first ≡ rows → second ≡ rows
+pub knows_made : (read columns : List ℕ) (number : Bool) (flat : Option (List PieceRow)) (rows first second made : List PlanRow) → columns ≡ read → made ≡ rows → first ≡ rows → second ≡ rows
     → All (λ column. IsTrue (list_any (λ c. c == column) read)) (flat_map row_columns first) → number ≡ list_any row_has_number second
-    → KnowsReads (record { columns = columns; by_number = number; rows = made })
-knows_made read columns number rows first second made columns_is made_is first_is second_is listed number_is = record {
+    → KnowsReads (record { columns = columns; by_number = number; rows = made; flat = flat })
+knows_made read columns number flat rows first second made columns_is made_is first_is second_is listed number_is = record {
   columns =
       let P : List ℕ → Type 0 = λ list. All (λ column. IsTrue (list_any (λ c. c == column) list)) (flat_map row_columns made) in
       let Q : List PlanRow → Type 0 = λ list. All (λ column. IsTrue (list_any (λ c. c == column) read)) (flat_map row_columns list) in

@@ -2,6 +2,7 @@ pub mod PublicLaws
 pub mod CutLists
 pub mod DraftLists
 pub mod ExampleWords
+pub mod FlatTables
 pub mod KeptRows
 pub mod NewPlan
 pub mod PieceOrder

@@ -1,3 +1,4 @@
 pub mod Collected
 pub mod CutSteps
+pub mod FlatRows
 pub mod Planned

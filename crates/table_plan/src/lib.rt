@@ -9,6 +9,7 @@ pub mod examples;
 pub mod laws;
 mod part_plans;
 mod piece_ranges;
+mod piece_rows;
 mod piece_search;
 mod plan;
 mod plan_column;
@@ -19,6 +20,7 @@ mod table_plans;
 mod table_reads;
 mod truths;
 
+pub use piece_rows::PieceRow;
 pub use piece_search::piece_of;
 pub use plan::TablePlan;
 pub use plan_column::PlanColumn;

@@ -36,12 +36,13 @@ impl Model for TablePlan {
     ghost use Rattle.std.specs.Prelude.{All};
     ghost use Rattle.table_plan.specs.PlanRows.{KnowsReads};
     ghost use Rattle.table_plan.specs.Plan.{Plan};
+    ghost use Rattle.table_plan.specs.internal.FlatRows.{KnowsFlat};
 
     ghost Value = { Plan };
 
     ghost view = { λ p. record { columns = p.columns; tables = p.tables } };
 
-    ghost invariant = { λ p. All KnowsReads p.tables };
+    ghost invariant = { λ p. All KnowsReads p.tables × All KnowsFlat p.tables };
 }
 
 impl TablePlan {

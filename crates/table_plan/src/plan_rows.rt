@@ -1,4 +1,5 @@
 //! The tables of a plan.
+use crate::piece_rows::PieceRow;
 use list_types::Items;
 use rule_types::ActionAt;
 
@@ -44,4 +45,7 @@ pub struct PlanTable {
     /// Whether some part of its rows is a condition by its place.
     pub by_number: bool,
     pub rows: Items<PlanRow>,
+    /// The rows once more as a flat list, where each has one clause of one part, which is a range
+    /// of pieces.
+    pub flat: Option<Items<PieceRow>>,
 }

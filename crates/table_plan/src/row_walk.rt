@@ -1,6 +1,7 @@
 //! Which row of a table holds.
-ghost use Rattle.std.specs.Prelude.{◌≡◌};
+ghost use Rattle.std.specs.Prelude.{◌≡◌, ℕ, Bool, map};
 ghost use Rattle.std.specs.List.{list_all};
+ghost use Rattle.rule_types.specs.declared.action.ActionAt.{ActionAt as AnyPair};
 ghost use Rattle.table_plan.specs.PlanRows.{
   piece_at as column_piece,
   lies_among as is_among,
@@ -12,7 +13,9 @@ ghost use Rattle.table_plan.specs.PlanRows.{
   same_piece,
   keeps_table as table_keeps,
 };
+ghost use Rattle.table_plan.specs.internal.FlatRows.{row_of, KnowsFlat};
 
+use crate::piece_rows::PieceRow;
 use crate::plan_rows::{PieceRange, PlanClause, PlanPart, PlanRow, PlanTable};
 use crate::truths::Truths;
 use rule_types::ActionAt;
@@ -87,17 +90,59 @@ fn row_holds<T: Truths>(row: &PlanRow, pieces: &[Option<usize>], truths: &T) -> 
     if row.negated { !all } else { all }
 }
 
-/// The action of the first row that holds. `rows_tried` counts the rows that are looked at.
-#[tactic(auto, unfolding(crate::specs::PlanRows::first_in))]
+/// The action of the first row of a table that holds. `rows_tried` counts the rows that are looked
+/// at.
 pub(crate) fn first_row_of<T: Truths>(
     table: &PlanTable,
     pieces: &[Option<usize>],
     truths: &T,
     rows_tried: &mut u64,
 ) -> Option<ActionAt>
+    requires { KnowsFlat table.now }
     ensures { result ≡ first_in pieces.now (T.truth truths.now) table.now.rows }
 {
-    for row in table.rows.as_slice() {
+    match &table.flat {
+        Some(flat) => first_flat_row(flat.as_slice(), pieces, rows_tried),
+        None => first_row(table.rows.as_slice(), pieces, truths, rows_tried),
+    }
+}
+
+/// Whether a flat row holds.
+fn flat_row_holds(row: &PieceRow, pieces: &[Option<usize>]) -> bool
+    ensures { (truth : AnyPair → ℕ → Bool) → result ≡ row_by pieces.now truth (row_of row.now) }
+{
+    lies_among(&row.range, pieces) != row.negated
+}
+
+/// The action of the first flat row that holds.
+fn first_flat_row(
+    rows: &[PieceRow],
+    pieces: &[Option<usize>],
+    rows_tried: &mut u64,
+) -> Option<ActionAt>
+    ensures { (truth : AnyPair → ℕ → Bool)
+        → result ≡ first_in pieces.now truth (map row_of rows.now) }
+{
+    for flat in rows {
+        *rows_tried = rows_tried.saturating_add(1);
+        if flat_row_holds(flat, pieces) {
+            return Some(flat.action);
+        }
+    }
+    None
+}
+
+/// The action of the first row that holds.
+#[tactic(auto, unfolding(crate::specs::PlanRows::first_in))]
+fn first_row<T: Truths>(
+    rows: &[PlanRow],
+    pieces: &[Option<usize>],
+    truths: &T,
+    rows_tried: &mut u64,
+) -> Option<ActionAt>
+    ensures { result ≡ first_in pieces.now (T.truth truths.now) rows.now }
+{
+    for row in rows {
         *rows_tried = rows_tried.saturating_add(1);
         if row_holds(row, pieces, truths) {
             return Some(row.action);

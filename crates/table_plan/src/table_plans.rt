@@ -6,10 +6,12 @@ ghost use Rattle.table_plan.specs.Plan.{pieces_of};
 ghost use Rattle.table_plan.specs.PlanRows.{first_in, KnowsReads};
 ghost use Rattle.table_plan.specs.Told.{Told, ordered_told};
 ghost use Rattle.table_plan.specs.internal.Collected.{Places, column_sides, IsPlanned};
+ghost use Rattle.table_plan.specs.internal.FlatRows.{KnowsFlat};
 ghost use Rattle.table_plan.specs.internal.Planned.{PlansTable, PlansTables};
 
 use crate::column_places::ColumnPlaces;
 use crate::part_plans::plan_row;
+use crate::piece_rows::flat_rows;
 use crate::plan_column::PlanColumn;
 use crate::plan_rows::{PlanRow, PlanTable};
 use crate::table_reads::{columns_read, has_number};
@@ -29,6 +31,7 @@ pub(crate) fn plan_tables(
     requires planned { All (IsPlanned columns.now) (flat_map table_ends tables.now) }
     ensures orders { IfOk result (λ plan. PlansTables columns.now tables.now plan.items) }
     ensures reads { IfOk result (λ plan. All KnowsReads plan.items) }
+    ensures flat { IfOk result (λ plan. All KnowsFlat plan.items) }
 {
     let mut plan = Vec::new(alloc);
     for table in tables {
@@ -48,14 +51,17 @@ fn plan_table(
     requires planned { All (IsPlanned columns.now) (table_ends table.now) }
     ensures orders { IfOk result (λ plan. PlansTable columns.now table.now plan) }
     ensures reads { IfOk result (λ plan. KnowsReads plan) }
+    ensures flat { IfOk result (λ plan. KnowsFlat plan) }
 {
     let rows = plan_rows(alloc, places, columns, table)?;
     let read = columns_read(alloc, rows.as_slice())?;
     let by_number = has_number(rows.as_slice());
+    let flat = flat_rows(alloc, rows.as_slice())?;
     Ok(PlanTable {
         columns: Items::from_vec(read),
         by_number,
         rows: Items::from_vec(rows),
+        flat,
     })
 }
 

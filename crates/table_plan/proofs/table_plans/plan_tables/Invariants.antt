@@ -1,5 +1,6 @@
 use Rattle.std.proofs.Common.{take, All}
 use Rattle.table_plan.specs.PlanRows.{KnowsReads}
+use Rattle.table_plan.specs.internal.FlatRows.{KnowsFlat}
 use Rattle.table_plan.specs.internal.Planned.{PlansTables}
 use Rattle.table_plan.proofs.table_plans.plan_tables.Given as goal
 
@@ -8,4 +9,5 @@ invariant-loop-table l =
     record {
       orders : PlansTables l.columns (take l.table-index l.tables) l.plan.items;
       reads : All KnowsReads l.plan.items;
+      flat : All KnowsFlat l.plan.items;
     }

@@ -1,6 +1,10 @@
 use Rattle.std.proofs.Common.{◌∙◌, None, Some}
+use Rattle.table_plan.proofs.FlatTables.{table_at}
 use Rattle.table_plan.proofs.KeptRows.{first_at, orders_by}
 use Rattle.table_plan.proofs.plan.TablePlan.first_row.Goals as goal
+
+pub first_row_of-requires : goal.first_row_of-requires
+first_row_of-requires g c = table_at c.self.inside.tables c.args.table c.in_ok-table.table.now c.self.invariant.1 c.in_ok-table.ensures.value
 
 pub returns-in_err-table-clause-first : goal.returns-in_err-table-clause-first
 returns-in_err-table-clause-first g c =

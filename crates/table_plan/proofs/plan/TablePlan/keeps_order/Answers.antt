@@ -8,7 +8,7 @@ returns-in_default-clause-value c =
 
 pub returns-in_default-clause-same : goal.returns-in_default-clause-same
 returns-in_default-clause-same c = λ is truth other.
-    kept_in c.args.self.now c.self.inside.columns c.self.inside.tables c.args.table c.args.old.now c.args.new.now _ c.self.view_is c.self.invariant
+    kept_in c.args.self.now c.self.inside.columns c.self.inside.tables c.args.table c.args.old.now c.args.new.now _ c.self.view_is c.self.invariant.0
     (keeps_at c.args.self.now c.self.inside.columns c.self.inside.tables c.args.table c.args.old.now c.args.new.now None c.self.view_is c.in_default.ensures.value) is truth other
 
 pub returns-clause-value : goal.returns-clause-value
@@ -18,6 +18,6 @@ returns-clause-value c =
 
 pub returns-clause-same : goal.returns-clause-same
 returns-clause-same c = λ is truth other.
-    kept_in c.args.self.now c.self.inside.columns c.self.inside.tables c.args.table c.args.old.now c.args.new.now c.keeps_table.result c.self.view_is c.self.invariant
+    kept_in c.args.self.now c.self.inside.columns c.self.inside.tables c.args.table c.args.old.now c.args.new.now c.keeps_table.result c.self.view_is c.self.invariant.0
     (c.keeps_table.ensures
     ∙ keeps_at c.args.self.now c.self.inside.columns c.self.inside.tables c.args.table c.args.old.now c.args.new.now (Some c.in-Some.table.now) c.self.view_is c.in-Some.ensures.value) is truth other
