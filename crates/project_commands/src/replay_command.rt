@@ -7,9 +7,9 @@ ghost use Rattle.rule_types.specs.Tables.{HoldsTables};
 ghost use Rattle.rule_types.specs.WellFormed.{WellFormed};
 ghost use Rattle.project_commands.specs.Replays.{replay_outcome, replay_roles, replay_printed};
 
-use input_check::read_input;
 use byte_edge::{Files, NoMemory, Sink};
 use command_outputs::{Complaint, Completion};
+use input_check::read_input;
 use replay_printer::ReplayPrinter;
 use rule_parser::Project;
 use std::alloc::Global;

@@ -4,9 +4,9 @@ ghost use Rattle.command_outputs.specs.Commands.{Performs};
 ghost use Rattle.rule_types.specs.WellFormed.{WellFormed};
 ghost use Rattle.project_commands.specs.Tables.{tables_printed, tables_outcome, tables_roles};
 
-use input_check::read_input;
 use byte_edge::{Files, NoMemory, Sink};
 use command_outputs::{Complaint, Completion, write_text};
+use input_check::read_input;
 use rule_parser::Project;
 use std::alloc::Global;
 use table_compiler::compile;

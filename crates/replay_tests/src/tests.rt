@@ -3,8 +3,8 @@ ghost use Rattle.rule_types.specs.Tables.{HoldsTables};
 ghost use Rattle.rule_types.specs.WellFormed.{WellFormed};
 
 use byte_edge::{MemoryFiles, MemorySink, NoMemory};
-use model_generator::gen_files;
 use input_check::read_input;
+use model_generator::gen_files;
 use project_commands::printer_of;
 use rule_parser::Project;
 use std::alloc::Global;
