@@ -11,10 +11,10 @@ use std::alloc::Global;
 use std::marker::Model;
 
 /// How many bytes a read asks for.
-const BLOCK: usize = 8192;
+const BLOCK: usize = 65_536;
 
-/// Bytes of a slot, taken by reads of up to 8,192 bytes. Contracts see the bytes that it holds. Their
-/// first LF is looked for once, where bytes were read or discarded.
+/// Bytes of a slot, taken by reads of up to 65,536 bytes. Contracts see the bytes that it holds.
+/// Their first LF is looked for once, where bytes were read or discarded.
 #[derive(Drop)]
 pub(crate) struct Block {
     bytes: Vec<u8>,
@@ -32,8 +32,9 @@ impl Model for Block {
 
     ghost view = { λ b. slice_range b.bytes.items b.start b.end };
 
-    ghost invariant = { λ b. (b.start ≤ b.end) × (b.end ≤ 8192) × (vec_len b.bytes ≡ 8192)
-        × (b.feed ≡ position (λ byte. byte == line_feed) (slice_range b.bytes.items b.start b.end)) };
+    ghost invariant = { λ b. (b.start ≤ b.end) × (b.end ≤ 65536) × (vec_len b.bytes ≡ 65536)
+        × (b.feed ≡ position (λ byte. byte == line_feed)
+        (slice_range b.bytes.items b.start b.end)) };
 }
 
 impl Block {
