@@ -18,7 +18,7 @@ take-append_take zero xs ys = refl
 take-append_take (suc n) [] ys = refl
 take-append_take (suc n) (x ∷ xs) ys = ap (λ l. x ∷ l) (take-append_take n xs ys)
 
-Consumes-held : (held : List ℕ) (n : ℕ) (left : Option (List ℕ)) → Consumes (prepend_known held left) (prepend_known (drop n held) left) (take n held)
+pub Consumes-held : (held : List ℕ) (n : ℕ) (left : Option (List ℕ)) → Consumes (prepend_known held left) (prepend_known (drop n held) left) (take n held)
 Consumes-held held n None = tt
 Consumes-held held n (Some ys) = ap (λ l. l ++ ys) (sym (take-append-drop n held)) ∙ append_assoc (take n held) (drop n held) ys
 

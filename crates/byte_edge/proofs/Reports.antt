@@ -21,6 +21,17 @@ length-strip_last byte xs = at (ends_with_byte byte xs)
 length-line_text : (raw : List ℕ) → length raw ≤ length (line_text raw) + 2
 length-line_text raw = omega (arith, length-strip_last 10 raw, length-strip_last 13 (strip_last 10 raw))
 
+strip_last-short : (byte : ℕ) (xs : List ℕ) → length (strip_last byte xs) ≤ length xs
+strip_last-short byte xs = at (ends_with_byte byte xs)
+  where
+    at : (b : Bool) → length (cond b (take (length xs - 1) xs) xs) ≤ length xs
+    at true = omega (arith, length-take (length xs - 1) xs)
+    at false = omega arith
+
+-- a line without its end is no longer
+pub line_text-short : (raw : List ℕ) → length (line_text raw) ≤ length raw
+line_text-short raw = omega (arith, strip_last-short 10 raw, strip_last-short 13 (strip_last 10 raw))
+
 over_long : (limit : ℕ) (raw : List ℕ) → limit + 3 ≤ length raw → line_event_of limit raw ≡ OverLong
 over_long limit raw long =
     let past : leb (length (line_text raw)) limit ≡ false = lt-leb _ _ (omega (arith, length-line_text raw)) in

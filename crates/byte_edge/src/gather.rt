@@ -19,7 +19,7 @@ pub(crate) struct Part {
 
 /// How many of the bytes held belong to the line that they begin, and whether its LF is among them.
 fn next_part(block: &Block) -> Part
-    ensures { IsNextPart result.len result.whole block.now }
+    ensures { IsNextPart result.len result.whole block.now.held }
 {
     let bytes = block.as_slice();
     match block.line_feed() {
@@ -60,9 +60,10 @@ pub(crate) fn gather<F: Files>(
     requires opened { F.is_open files.old slot }
 
     ensures gathered { Gathers result line.new room.old room.new
-        (prepend_known block.old (F.left files.old slot)) block.new (F.left files.new slot) }
+        (prepend_known block.old.held (F.left files.old slot)) block.new.held
+        (F.left files.new slot) }
     ensures most { line.new.most ≡ line.old.most }
-    ensures unread { IsTrue (has_line_feed block.old)
+    ensures unread { IsTrue (has_line_feed block.old.held)
         → SlotsUnchanged
         (F.left files.old) (F.left files.new) (F.faults files.old) (F.faults files.new) }
 

@@ -33,39 +33,39 @@ none_held len whole bytes rest is part rest_is = rest_is ∙ drop_all len bytes 
 pub returns-then-part-room-clause-gathered : goal.returns-then-part-room-clause-gathered
 returns-then-part-room-clause-gathered g c =
     let begun = c.parts.invariant.begun in
-    let part : IsNextPart c.next_part-part.result.len c.next_part-part.result.whole c.parts.block = c.next_part-part.ensures in
+    let part : IsNextPart c.next_part-part.result.len c.next_part-part.result.whole c.parts.block.held = c.next_part-part.ensures in
     record {
-      raw = begun.raw ++ take c.next_part-part.result.len c.parts.block;
+      raw = begun.raw ++ take c.next_part-part.result.len c.parts.block.held;
       over = record {
-        over = omega (arith, begun.taken.paid, length-append begun.raw (take c.next_part-part.result.len c.parts.block), length-take-le c.next_part-part.result.len c.parts.block part.within);
+        over = omega (arith, begun.taken.paid, length-append begun.raw (take c.next_part-part.result.len c.parts.block.held), length-take-le c.next_part-part.result.len c.parts.block.held part.within);
         one_line = one_line _ _ _ _ begun.none part;
-        consumed = Consumes-part _ _ _ _ _ _ c.consume.ensures begun.taken.consumed;
+        consumed = Consumes-part _ _ _ _ _ _ c.consume.ensures.held begun.taken.consumed;
       };
     }
 
 pub returns-then-part-clause-gathered : goal.returns-then-part-clause-gathered
 returns-then-part-clause-gathered g c =
     let begun = c.parts.invariant.begun in
-    let part : IsNextPart c.next_part-part.result.len c.next_part-part.result.whole c.parts.block = c.next_part-part.ensures in
+    let part : IsNextPart c.next_part-part.result.len c.next_part-part.result.whole c.parts.block.held = c.next_part-part.ensures in
     record {
-      raw = begun.raw ++ take c.next_part-part.result.len c.parts.block;
+      raw = begun.raw ++ take c.next_part-part.result.len c.parts.block.held;
       whole = IsWholeLine-after _ _ begun.none (part.line c.if-part.true);
-      taken = IsTaken-part _ _ _ _ _ _ _ _ _ _ part.within c.if-part-room.false c.consume.ensures (rw c.as_slice.ensures at c.extend.ensures.bytes) c.extend.ensures.most begun.taken;
+      taken = IsTaken-part _ _ _ _ _ _ _ _ _ _ part.within c.if-part-room.false c.consume.ensures.held (rw c.as_slice.ensures at c.extend.ensures.bytes) c.extend.ensures.most begun.taken;
     }
 
 pub parts-preserved : goal.parts-preserved
 parts-preserved g c =
     let begun = c.parts.invariant.begun in
-    let part : IsNextPart c.next_part-part.result.len c.next_part-part.result.whole c.parts.block = c.next_part-part.ensures in
-    let taken = IsTaken-part _ _ _ _ _ _ _ _ _ _ part.within c.if-part-room.false c.consume.ensures (rw c.as_slice.ensures at c.extend.ensures.bytes) c.extend.ensures.most begun.taken in
+    let part : IsNextPart c.next_part-part.result.len c.next_part-part.result.whole c.parts.block.held = c.next_part-part.ensures in
+    let taken = IsTaken-part _ _ _ _ _ _ _ _ _ _ part.within c.if-part-room.false c.consume.ensures.held (rw c.as_slice.ensures at c.extend.ensures.bytes) c.extend.ensures.most begun.taken in
     record {
       begun = record {
-        raw = begun.raw ++ take c.next_part-part.result.len c.parts.block;
+        raw = begun.raw ++ take c.next_part-part.result.len c.parts.block.held;
         none = no_line _ _ _ _ c.if-part.false begun.none part;
         taken = record {
           kept = taken.kept;
           paid = taken.paid;
-          consumed = Consumes-filled _ _ _ _ _ _ (none_held _ _ _ _ c.if-part.false part c.consume.ensures) taken.consumed c.in-Ok-true.ensures.bytes;
+          consumed = Consumes-filled _ _ _ _ _ _ (none_held _ _ _ _ c.if-part.false part c.consume.ensures.held) taken.consumed c.in-Ok-true.ensures.bytes;
         };
       };
       most = search rules;
@@ -76,16 +76,16 @@ parts-preserved g c =
 pub returns-in-Ok-false-clause-gathered : goal.returns-in-Ok-false-clause-gathered
 returns-in-Ok-false-clause-gathered g c =
     let begun = c.parts.invariant.begun in
-    let part : IsNextPart c.next_part-part.result.len c.next_part-part.result.whole c.parts.block = c.next_part-part.ensures in
-    let taken = IsTaken-part _ _ _ _ _ _ _ _ _ _ part.within c.if-part-room.false c.consume.ensures (rw c.as_slice.ensures at c.extend.ensures.bytes) c.extend.ensures.most begun.taken in
+    let part : IsNextPart c.next_part-part.result.len c.next_part-part.result.whole c.parts.block.held = c.next_part-part.ensures in
+    let taken = IsTaken-part _ _ _ _ _ _ _ _ _ _ part.within c.if-part-room.false c.consume.ensures.held (rw c.as_slice.ensures at c.extend.ensures.bytes) c.extend.ensures.most begun.taken in
     let done = c.in-Ok-false.ensures.end c.in-Ok-false.field-0-test in
     record {
-      raw = begun.raw ++ take c.next_part-part.result.len c.parts.block;
+      raw = begun.raw ++ take c.next_part-part.result.len c.parts.block.held;
       none = no_line _ _ _ _ c.if-part.false begun.none part;
       taken = record {
         kept = taken.kept;
         paid = taken.paid;
-        consumed = Consumes-filled _ _ _ _ _ _ (none_held _ _ _ _ c.if-part.false part c.consume.ensures) taken.consumed c.in-Ok-false.ensures.bytes;
+        consumed = Consumes-filled _ _ _ _ _ _ (none_held _ _ _ _ c.if-part.false part c.consume.ensures.held) taken.consumed c.in-Ok-false.ensures.bytes;
       };
       empty = done.0;
       at_end = done.1;
@@ -94,23 +94,23 @@ returns-in-Ok-false-clause-gathered g c =
 pub returns-in-Err-clause-gathered : goal.returns-in-Err-clause-gathered
 returns-in-Err-clause-gathered g c =
     let begun = c.parts.invariant.begun in
-    let part : IsNextPart c.next_part-part.result.len c.next_part-part.result.whole c.parts.block = c.next_part-part.ensures in
-    let taken = IsTaken-part _ _ _ _ _ _ _ _ _ _ part.within c.if-part-room.false c.consume.ensures (rw c.as_slice.ensures at c.extend.ensures.bytes) c.extend.ensures.most begun.taken in
+    let part : IsNextPart c.next_part-part.result.len c.next_part-part.result.whole c.parts.block.held = c.next_part-part.ensures in
+    let taken = IsTaken-part _ _ _ _ _ _ _ _ _ _ part.within c.if-part-room.false c.consume.ensures.held (rw c.as_slice.ensures at c.extend.ensures.bytes) c.extend.ensures.most begun.taken in
     record {
-      raw = begun.raw ++ take c.next_part-part.result.len c.parts.block;
+      raw = begun.raw ++ take c.next_part-part.result.len c.parts.block.held;
       none = no_line _ _ _ _ c.if-part.false begun.none part;
-      consumed = Consumes-unread _ _ _ _ _ _ (none_held _ _ _ _ c.if-part.false part c.consume.ensures) c.in-Err.ensures.nothing taken.consumed c.in-Err.ensures.unread;
+      consumed = Consumes-unread _ _ _ _ _ _ (none_held _ _ _ _ c.if-part.false part c.consume.ensures.held) c.in-Err.ensures.nothing taken.consumed c.in-Err.ensures.unread;
       empty = c.in-Err.ensures.nothing;
     }
 
 pub returns-in-Ok-false-clause-unread : goal.returns-in-Ok-false-clause-unread
 returns-in-Ok-false-clause-unread g c = λ has.
-    let part : IsNextPart c.next_part-part.result.len c.next_part-part.result.whole c.parts.block = c.next_part-part.ensures in
+    let part : IsNextPart c.next_part-part.result.len c.next_part-part.result.whole c.parts.block.held = c.next_part-part.ensures in
     part_is_whole _ _ _ _ c.if-part.false part (c.parts.invariant.unread has).0 has
 
 pub returns-in-Err-clause-unread : goal.returns-in-Err-clause-unread
 returns-in-Err-clause-unread g c = λ has.
-    let part : IsNextPart c.next_part-part.result.len c.next_part-part.result.whole c.parts.block = c.next_part-part.ensures in
+    let part : IsNextPart c.next_part-part.result.len c.next_part-part.result.whole c.parts.block.held = c.next_part-part.ensures in
     part_is_whole _ _ _ _ c.if-part.false part (c.parts.invariant.unread has).0 has
 
 pub returns-then-part-room-clause-unread : goal.returns-then-part-room-clause-unread

@@ -8,9 +8,9 @@ use Rattle.byte_edge.proofs.gather.gather.Given as goal
 -- what was taken so far is the beginning of a line, and no call failed
 abbrev pub invariant-parts : goal.invariant-parts
 invariant-parts g l = record {
-  begun : IsBegun l.line l.initial.room l.room (prepend_known l.initial.block (g.F.Files.left l.initial.files l.slot)) (prepend_known l.block (g.F.Files.left l.files l.slot));
+  begun : IsBegun l.line l.initial.room l.room (prepend_known l.initial.block.held (g.F.Files.left l.initial.files l.slot)) (prepend_known l.block.held (g.F.Files.left l.files l.slot));
   most : l.line.most ≡ l.initial.line.most;
-  unread : IsTrue (has_line_feed l.initial.block) → (l.block ≡ l.initial.block)
+  unread : IsTrue (has_line_feed l.initial.block.held) → (l.block.held ≡ l.initial.block.held)
       × SlotsUnchanged (g.F.Files.left l.initial.files) (g.F.Files.left l.files) (g.F.Files.faults l.initial.files) (g.F.Files.faults l.files);
   call : IsCallOn l.slot false (g.F.Files.is_open l.initial.files) (g.F.Files.is_open l.files)
       (g.F.Files.held l.initial.files) (g.F.Files.held l.files) (g.F.Files.left l.initial.files) (g.F.Files.left l.files)
@@ -19,4 +19,4 @@ invariant-parts g l = record {
 
 -- a read that gives bytes is followed by a part of a line, which is paid for
 abbrev pub decreases-parts : goal.decreases-parts
-decreases-parts g l = 2 * l.room + (1 - length l.block)
+decreases-parts g l = 2 * l.room + (1 - length l.block.held)

@@ -9,5 +9,5 @@ returns-in-Some c = newline-found _ _ c.in-Some.ensures
 
 pub returns-in-None : goal.returns-in-None
 returns-in-None c =
-    subst (λ bytes. IsNextPart (length bytes) false c.args.block.now) (sym c.as_slice-bytes.ensures)
+    subst (λ bytes. IsNextPart (length bytes) false c.args.block.now.held) (sym c.as_slice-bytes.ensures)
     (newline-absent _ c.in-None.ensures)
