@@ -254,13 +254,16 @@ class ScriptTest(unittest.TestCase):
             ran = self.call(*words)
             self.assertEqual((ran.returncode, ran.stderr, self.calls()), (status, "", []))
 
-    def test_a_larger_program_is_run_where_it_is_current(self):
-        for words, status in ((CHECK, 9), (SMALL[1], 6), (CHECK, 6), (("gen", "1"), 5), (CHECK, 5)):
+    def test_the_smallest_program_that_is_current_is_run(self):
+        for words, status in ((CHECK, 9), (SMALL[1], 6), (CHECK, 9), (("gen", "1"), 5), (CHECK, 9)):
             self.assertEqual(self.call(*words).returncode, status)
         self.calls()
-        for words in SMALL:
-            ran = self.call(*words)
-            self.assertEqual((ran.returncode, ran.stderr, self.calls()), (5, "", []))
+        for gone, statuses in ((None, (9, 6, 6)), ("check_bin", (6, 6, 6)), ("project_bin", (5, 5, 5))):
+            if gone:
+                shutil.rmtree(f"{self.top}/crates/{gone}/out")
+            for words, status in zip(SMALL, statuses):
+                ran = self.call(*words)
+                self.assertEqual((ran.returncode, ran.stderr, self.calls()), (status, "", []))
 
     def test_other_words_build_the_whole_tool(self):
         self.call("check", "x")
@@ -271,7 +274,7 @@ class ScriptTest(unittest.TestCase):
             self.assertEqual((ran.returncode, ran.stdout), (70, ""), words)
             self.assertIn("proving and building 2 libraries and the program", ran.stderr, words)
             self.assertNotIn("it is the program of", ran.stderr, words)
-        self.assertEqual(self.call("check", "x").returncode, 6)
+        self.assertEqual(self.call("check", "x").returncode, 9)
 
     def test_a_small_program_is_run_where_larger_ones_are_old(self):
         self.call("check", "x")
@@ -280,8 +283,9 @@ class ScriptTest(unittest.TestCase):
         time.sleep(0.02)
         self.write("crates/high/src/lib.rt", "changed")
         self.calls()
-        ran = self.call("check", "x")
-        self.assertEqual((ran.returncode, ran.stderr, self.calls()), (6, "", []))
+        for words, status in ((("tables", "x"), 6), (("check", "x"), 9)):
+            ran = self.call(*words)
+            self.assertEqual((ran.returncode, ran.stderr, self.calls()), (status, "", []))
         time.sleep(0.02)
         self.write("crates/project_bin/src/lib.rt", "changed")
         ran = self.call("check", "x")
