@@ -1,6 +1,7 @@
 //! The command `gen`.
-ghost use Rattle.std.specs.Prelude.{◌≡◌, ◌≤◌};
+ghost use Rattle.std.specs.Prelude.{◌≡◌, ◌≤◌, IfOk};
 ghost use Rattle.command_outputs.specs.Commands.{Performs};
+ghost use Rattle.rule_meaning.specs.Reading.{settling};
 ghost use Rattle.rule_types.specs.Tables.{HoldsTables};
 ghost use Rattle.rule_types.specs.WellFormed.{WellFormed};
 ghost use Rattle.generated_replay.specs.GeneratedText.{gen_outcome, gen_roles, gen_text};
@@ -9,12 +10,14 @@ ghost use Rattle.trace_tally.specs.Giving.{Gives, tally_seen};
 
 use crate::input::project_of;
 use crate::text::tally_text;
-use byte_edge::{Files, Sink};
+use byte_edge::{Files, NoMemory, Sink};
 use command_outputs::{Complaint, Completion, Role, TRACE_FILE, write_text};
 use model_generator::gen_files;
-use plain_replay::PlainReads;
 use rule_parser::Project;
 use std::alloc::Global;
+use table_compiler::compile;
+use table_run::TableReads;
+use trace_replay::Reads;
 use trace_tally::{Replayed, replay_trace};
 
 /// `gen N`, for an N from 1 to 1,000: makes the input file and the trace of the model of `n` pumps
@@ -79,7 +82,7 @@ fn text_of(alloc: Global, n: u32, input: &[u8], trace: &[u8]) -> Result<Vec<u8>,
     }
 }
 
-/// Replays the rules of a project over a trace with these bytes.
+/// Replays the rules of a project over a trace with these bytes, by their decision tables.
 fn replay_project(alloc: Global, project: &Project, trace: &[u8]) -> Result<Replayed, Complaint>
     requires well_formed { WellFormed project.now.rules }
     requires tables { HoldsTables project.now.tables project.now.rules.rules }
@@ -88,8 +91,23 @@ fn replay_project(alloc: Global, project: &Project, trace: &[u8]) -> Result<Repl
     if trace.len() as u64 > TRACE_FILE.budget {
         return Err(Complaint::TooLong(Role::Trace));
     }
-    let Ok(readings) = PlainReads::new(alloc, &project.rules, &project.tables) else {
+    let Ok(readings) = readings_of(alloc, project) else {
         return Err(Complaint::OutOfMemory);
     };
     replay_trace(alloc, &project.rules, &project.objects, readings, trace)
+}
+
+/// The reading of a project's rules by their decision tables.
+fn readings_of<'a>(alloc: Global, project: &'a Project) -> Result<TableReads<'a>, NoMemory>
+    requires well_formed { WellFormed project.now.rules }
+    ensures ready { IfOk result ⟦<TableReads<'a> as Reads>⟧.is_ready }
+    ensures made_for { IfOk result
+        (λ reads. ⟦<TableReads<'a> as Reads>⟧.made_for reads ≡ project.now.rules) }
+    ensures held { IfOk result
+        (λ reads. ⟦<TableReads<'a> as Reads>⟧.held reads ≡ project.now.tables) }
+    ensures choice { IfOk result
+        (λ reads. ⟦<TableReads<'a> as Reads>⟧.choice reads ≡ settling project.now.rules) }
+{
+    let link_tables = compile(alloc, &project.rules)?;
+    TableReads::new(alloc, &project.rules, &project.tables, &link_tables)
 }
