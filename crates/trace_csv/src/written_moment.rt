@@ -1,5 +1,6 @@
 //! Moments with the texts that they are written as.
 ghost use Rattle.std.specs.Prelude.{◌≡◌, ◌++◌, ◌∷◌, [], ◌<◌, ◌+ℤ◌, ◌-ℤ◌, pos, take, IfSome, IsTrue, if◌then◌else◌, Some, None};
+ghost use Rattle.std.specs.Int.{w64, to_le_bytes};
 ghost use Rattle.exact_fraction.specs.Moments.{IsMoment, moment_at};
 ghost use Rattle.num_text.specs.Clocks.{moment_of};
 ghost use Rattle.num_text.specs.Written.{places, written_time, written_moment};
@@ -105,17 +106,56 @@ impl WrittenMoment {
     }
 }
 
-/// Whether two texts are the same 11 bytes, which are compared as arrays.
+/// Whether two texts are the same 11 bytes.
 fn is_same(one: &[u8], other: &[u8]) -> bool
     ensures value { IsTrue result → one.now ≡ other.now }
 {
-    let Some(date) = one.as_array::<11>() else {
+    if one.len() != 11 {
+        return false;
+    }
+    if other.len() != 11 {
+        return false;
+    }
+    let (front, back) = one.split_at(8);
+    let (other_front, other_back) = other.split_at(8);
+    if !are_same_eight(front, other_front) {
+        return false;
+    }
+    are_same_three(back, other_back)
+}
+
+/// Whether two texts are the same eight bytes, which are compared as numbers.
+fn are_same_eight(one: &[u8], other: &[u8]) -> bool
+    ensures value { IsTrue result → one.now ≡ other.now }
+{
+    let Some(number) = number_of_eight(one) else {
         return false;
     };
-    let Some(kept) = other.as_array::<11>() else {
+    let Some(second) = number_of_eight(other) else {
         return false;
     };
-    date == kept
+    number == second
+}
+
+/// The number that eight bytes are, the lowest first. None for all other texts.
+fn number_of_eight(text: &[u8]) -> Option<u64>
+    ensures value { IfSome result (λ number. to_le_bytes w64 number ≡ text.now) }
+{
+    let bytes = text.as_array::<8>()?;
+    Some(u64::from_le_bytes(*bytes))
+}
+
+/// Whether two texts are the same three bytes.
+fn are_same_three(one: &[u8], other: &[u8]) -> bool
+    ensures value { IsTrue result → one.now ≡ other.now }
+{
+    let [first, second, third] = one else {
+        return false;
+    };
+    let [first_other, second_other, third_other] = other else {
+        return false;
+    };
+    *first == *first_other && *second == *second_other && *third == *third_other
 }
 
 /// The moment of a second of the day of a moment.
