@@ -87,12 +87,12 @@ pub(crate) fn take_row<R: Reads>(
         &mut progress.links,
         &mut progress.memories,
     );
-    let orders = orders_of(readings, due);
     let changed = stand(
         rules,
+        readings,
+        due,
         &read,
         &gap,
-        orders,
         &mut progress.links,
         &mut progress.switches,
         moment,
@@ -207,13 +207,15 @@ fn orders_of<R: Reads>(readings: &R, due: bool) -> &[Order]
     &[]
 }
 
-/// Moves the links after the reading of a row, and notes its moment as that of the last switch of
-/// each link that it switches. False only where all links stay as they were, as after a stop.
-fn stand(
+/// Moves the links by the orders of the reading of a row, and notes the row's moment as that of the
+/// last switch of each link that it switches. False only where all links stay as they were, as after
+/// a stop.
+fn stand<R: Reads>(
     rules: &Rules,
+    readings: &R,
+    due: bool,
     read: &Result<(), Stop>,
     gap: &Frac,
-    orders: &[Order],
     links: &mut [LinkState],
     switches: &mut [Option<Moment>],
     moment: Moment,
@@ -222,22 +224,22 @@ fn stand(
     requires each_link { length links.old ≡ length rules.now.tracked }
     requires each_switch { length switches.old ≡ length rules.now.tracked }
     requires gap { zero ≤ℚ gap.now }
-    requires in_order { OnOk read.now
-        (IsStrictlyIncreasing (map (λ order. order.link) orders.now)) }
-    requires can_move { OnOk read.now
-        (CanMove orders.now rules.now.tracked rules.now.rates links.old) }
+    requires in_order { OnOk read.now (IsStrictlyIncreasing
+        (map (λ order. order.link) (orders_when due (R.last_orders readings.now)))) }
+    requires can_move { OnOk read.now (CanMove (orders_when due (R.last_orders readings.now))
+        rules.now.tracked rules.now.rates links.old) }
     ensures links { (state : AnyState) → state.links ≡ links.old
-        → stayed links.new
-        ≡ standings_after rules.now gap.now state (given read.now orders.now) }
+        → stayed links.new ≡ standings_after rules.now gap.now state
+        (given read.now (orders_when due (R.last_orders readings.now))) }
     ensures switches { (state : AnyState) → state.links ≡ links.old
-        → switches.new ≡ switches_after moment links.old
-        (standings_after rules.now gap.now state (given read.now orders.now)) switches.old }
+        → switches.new ≡ switches_after moment links.old (standings_after rules.now gap.now state
+        (given read.now (orders_when due (R.last_orders readings.now)))) switches.old }
     ensures unchanged { result ≡ false → links.new ≡ links.old }
 {
     match read {
         Ok(()) => follow(
             gap,
-            orders,
+            orders_of(readings, due),
             rules.tracked.as_slice(),
             rules.rates.as_slice(),
             links,

@@ -1,4 +1,4 @@
-use Rattle.std.proofs.Common.{◌≡◌, ◌<◌, ℕ, Some, List, length, rules, sym, subst, ap, ◌∙◌}
+use Rattle.std.proofs.Common.{◌≡◌, ◌<◌, ℕ, Some, List, length, rules, refl, sym, subst, ap, ◌∙◌}
 use Rattle.std.proofs.lemmas.List.{with_items_is, take_at}
 use Rattle.std.specs.Prelude.{All}
 use Rattle.std.specs.Vec.{with_items}
@@ -18,7 +18,7 @@ use Rattle.trace_replay.specs.Answers.{row_at}
 use Rattle.trace_replay.specs.Progress.{kept_of}
 use Rattle.trace_replay.specs.Readings.{given}
 use Rattle.trace_replay.specs.internal.Moving.{CanMove, settings_at}
-use Rattle.trace_replay.specs.internal.Rows.{due_after, memories_when}
+use Rattle.trace_replay.specs.internal.Rows.{due_after, memories_when, orders_when}
 use Rattle.trace_replay.proofs.BackToFront.{stayed_timed}
 use Rattle.trace_replay.proofs.LinkSteps.{links_of}
 use Rattle.trace_replay.proofs.FirstSteps.{stayed_long, places_within, places_long, settings_are, settings_stay}
@@ -59,13 +59,13 @@ stand-changed-requires-clause-in_order g c =
     let timed : c.set_timers.new.links ≡ links_at c.start_at-start.result c.args.moment (stayed c.args.progress.now.links.items) c.args.progress.now.switches.items =
     c.set_timers.ensures.links ∙ (λ i. links_at c.start_at-start.result c.args.moment (stayed (c.deref_mut.ensures.value i)) (c.deref.ensures.value i)) in
     let long : length c.set_timers.new.links ≡ c.args.progress.now.links.len = search rules in
-    when_read (λ orders. IsStrictlyIncreasing (links_of orders)) c.read_row-read.result c.orders_of-orders.result.now
+    when_read (λ orders. IsStrictlyIncreasing (links_of orders)) c.read_row-read.result (orders_when c.is_due-due.result (g.R.Reads.last_orders c.read_row-read.new.readings))
     (reading_of (g.R.Reads.choice c.args.readings.now) c.args.rules.now (g.R.Reads.held c.args.readings.now) (kept_of c.args.progress.now) (row_at c.args.moment c.args.inputs.now))
     (reading_same (g.R.Reads.choice c.args.readings.now) c.args.rules.now (g.R.Reads.held c.args.readings.now) (kept_of c.args.progress.now) (row_at c.args.moment c.args.inputs.now)
-    c.is_due-due.result c.read_row-read.result c.orders_of-orders.result.now _ _ c.deref_mut-2.result.now c.is_due-due.ensures
+    c.is_due-due.result c.read_row-read.result (orders_when c.is_due-due.result (g.R.Reads.last_orders c.read_row-read.new.readings)) _ _ c.deref_mut-2.result.now c.is_due-due.ensures
     (state_same c.args.rules.now (kept_of c.args.progress.now) (row_at c.args.moment c.args.inputs.now) c.args.progress.now.links.len c.start_at-start.result c.step_at-step.result
     c.copy_from_slice.new.self.items c.set_timers.new.links _ c.start_at-start.ensures c.step_at-step.ensures c.copy_from_slice.ensures.items long timed)
-    c.deref_mut-2.ensures.value c.orders_of-orders.ensures c.read_row-read.ensures.reading)
+    c.deref_mut-2.ensures.value refl c.read_row-read.ensures.reading)
     (λ found is. orders_rise (g.R.Reads.choice c.args.readings.now) c.args.rules.now (g.R.Reads.held c.args.readings.now) (kept_of c.args.progress.now) (row_at c.args.moment c.args.inputs.now) found c.requires.follows is)
 
 pub stand-changed-requires-clause-can_move : goal.stand-changed-requires-clause-can_move
@@ -75,13 +75,13 @@ stand-changed-requires-clause-can_move g c =
     let long : length c.set_timers.new.links ≡ c.args.progress.now.links.len = search rules in
     let same = state_same c.args.rules.now (kept_of c.args.progress.now) (row_at c.args.moment c.args.inputs.now) c.args.progress.now.links.len c.start_at-start.result c.step_at-step.result
     c.copy_from_slice.new.self.items c.set_timers.new.links _ c.start_at-start.ensures c.step_at-step.ensures c.copy_from_slice.ensures.items long timed in
-    when_read (λ orders. CanMove orders c.args.rules.now.tracked c.args.rules.now.rates c.deref_mut-3.result.now) c.read_row-read.result c.orders_of-orders.result.now
+    when_read (λ orders. CanMove orders c.args.rules.now.tracked c.args.rules.now.rates c.deref_mut-3.result.now) c.read_row-read.result (orders_when c.is_due-due.result (g.R.Reads.last_orders c.read_row-read.new.readings))
     (reading_of (g.R.Reads.choice c.args.readings.now) c.args.rules.now (g.R.Reads.held c.args.readings.now) (kept_of c.args.progress.now) (row_at c.args.moment c.args.inputs.now))
     (reading_same (g.R.Reads.choice c.args.readings.now) c.args.rules.now (g.R.Reads.held c.args.readings.now) (kept_of c.args.progress.now) (row_at c.args.moment c.args.inputs.now)
-    c.is_due-due.result c.read_row-read.result c.orders_of-orders.result.now _ _ c.deref_mut-2.result.now c.is_due-due.ensures
+    c.is_due-due.result c.read_row-read.result (orders_when c.is_due-due.result (g.R.Reads.last_orders c.read_row-read.new.readings)) _ _ c.deref_mut-2.result.now c.is_due-due.ensures
     (state_same c.args.rules.now (kept_of c.args.progress.now) (row_at c.args.moment c.args.inputs.now) c.args.progress.now.links.len c.start_at-start.result c.step_at-step.result
     c.copy_from_slice.new.self.items c.set_timers.new.links _ c.start_at-start.ensures c.step_at-step.ensures c.copy_from_slice.ensures.items long timed)
-    c.deref_mut-2.ensures.value c.orders_of-orders.ensures c.read_row-read.ensures.reading)
+    c.deref_mut-2.ensures.value refl c.read_row-read.ensures.reading)
     (λ found is.
     subst (λ (links : List LinkState). CanMove found c.args.rules.now.tracked c.args.rules.now.rates links)
     (sym (c.deref_mut-3.ensures.value ∙ c.read_row-read.ensures.links ∙ ap (λ (s : State). s.links) same))
@@ -136,11 +136,11 @@ returns-clause-kept g c =
     with_items_is c.read_row-read.new.links c.stand-changed.new.links (search rules) in
     let same = state_same c.args.rules.now before row c.args.progress.now.links.len c.start_at-start.result c.step_at-step.result
     c.copy_from_slice.new.self.items c.set_timers.new.links _ c.start_at-start.ensures c.step_at-step.ensures c.copy_from_slice.ensures.items long timed in
-    let reading : given c.read_row-read.result c.orders_of-orders.result.now
+    let reading : given c.read_row-read.result (orders_when c.is_due-due.result (g.R.Reads.last_orders c.read_row-read.new.readings))
     ≡ reading_of (g.R.Reads.choice c.args.readings.now) c.args.rules.now (g.R.Reads.held c.args.readings.now) before row =
     reading_same (g.R.Reads.choice c.args.readings.now) c.args.rules.now (g.R.Reads.held c.args.readings.now) before row
-    c.is_due-due.result c.read_row-read.result c.orders_of-orders.result.now _ _ c.deref_mut-2.result.now c.is_due-due.ensures
-    same c.deref_mut-2.ensures.value c.orders_of-orders.ensures c.read_row-read.ensures.reading in
+    c.is_due-due.result c.read_row-read.result (orders_when c.is_due-due.result (g.R.Reads.last_orders c.read_row-read.new.readings)) _ _ c.deref_mut-2.result.now c.is_due-due.ensures
+    same c.deref_mut-2.ensures.value refl c.read_row-read.ensures.reading in
     let lent : c.deref_mut-3.result.now ≡ (state_of c.args.rules.now before row).links =
     c.deref_mut-3.ensures.value ∙ c.read_row-read.ensures.links ∙ ap (λ (s : State). s.links) same in
     let standings : stayed (with_items c.read_row-read.new.links c.stand-changed.new.links).items
@@ -153,9 +153,9 @@ returns-clause-kept g c =
     (standings_after c.args.rules.now (c.gap_at-gap.ensures i) (state_of c.args.rules.now before row) (reading i)) (c.deref_mut-4.ensures.value i)) in
     let memories = with_items_is c.args.progress.now.memories c.read_row-read.new.memories (search rules) ∙ c.read_row-read.ensures.memories
     ∙ (λ i. memories_when (c.is_due-due.ensures i) c.args.rules.now (same i) (c.deref_mut-2.ensures.value i)
-    ((ap (given c.read_row-read.result) (sym c.orders_of-orders.ensures) ∙ reading) i)) in
+    (reading i)) in
     let due = c.last_due-progress.ensures ∙ ap (λ d. due_after d c.args.moment c.args.progress.now.due) c.is_due-due.ensures in
-    let stop = c.err-progress.ensures.value ∙ stop_same c.read_row-read.result c.orders_of-orders.result.now ∙ ap stop_of reading in
+    let stop = c.err-progress.ensures.value ∙ stop_same c.read_row-read.result (orders_when c.is_due-due.result (g.R.Reads.last_orders c.read_row-read.new.readings)) ∙ ap stop_of reading in
     λ i. record {
       standings = standings i;
       switches = switches i;
